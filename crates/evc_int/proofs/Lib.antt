@@ -1,0 +1,6 @@
+pub mod Whole
+pub mod Expressions
+pub mod Division
+pub mod Machine
+pub mod LowBits
+pub mod Lists
