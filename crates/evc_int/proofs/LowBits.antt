@@ -12,7 +12,7 @@ use mir.Val.{SFits}
 use Rattle.evc_int.specs.Whole.{_⁺, _⁻, _modulo_}
 use Rattle.evc_int.specs.LowBits.{low16, signed16}
 use Rattle.evc_int.proofs.Whole.{Is, nat, of, is--, same}
-use Rattle.evc_int.proofs.Expressions.{!, _⊕_, _⊗_, _⊖_, solve, fact}
+use Rattle.evc_int.proofs.Expressions.{ !, _⊕_, _⊗_, _⊖_, solve, fact}
 use Rattle.evc_int.proofs.Division.{split, split-only, modulo-lt}
 use Rattle.evc_int.proofs.Machine.{fit, rng}
 

@@ -5,10 +5,10 @@ use mathlib.Core.List.{List, [], _∷_}
 use mathlib.Core.Path.{_≡_, refl, sym, ap, subst, _∙_}
 use Prim.Native.Nat.{ℕ, zero, suc, _+_, _-_, _*_, _%_, _^_, _≤_, _<_}
 use native.Mathlib.Omega.{arith}
-use native.Mathlib.Nat.{mul-le-mul-left}
+use native.Mathlib.Nat.{mul-le-mul-left, lt-of-le-of-lt}
 use lib.ListN.{getD}
 use lib.IntN.{ℤ, pos, negsuc, natAbs}
-use lib.Signed.{mag, nonNeg}
+use lib.Signed.{mag, nonNeg, shrZ, mag-shr}
 use lib.Dec.{T, lit<, ltb, leb, ltb→lt}
 use lib.Bits.{bitAnd, and-mask}
 use mir.Syntax.{Width, w8, w16, w32, w64, w128}
@@ -17,7 +17,6 @@ use mir.Facts.{toZ-ofZ, toZ-pos, and-yes, sfits-widen}
 use borrow.Author.Needs.{needs}
 use Rattle.evc_int.specs.Whole.{_⁺, _⁻, _modulo_}
 use Rattle.evc_int.proofs.Whole.{Is, of, nat, is-by, is-eq, abs-of}
-use Rattle.evc_int.proofs.Division.{mod-same}
 
 -- ---- readings: a value that was computed, a parameter, an unsigned value that was cast, bits below the half, a mask
 
@@ -56,6 +55,10 @@ fit {w} {z} {a} {b} p h = record { sfits = fit′ w z (omega arith) (omega arith
 
 pub fit-abs : {w : Width} {z : ℤ} {m : ℕ} → natAbs z ≤ m → m < 2 ^ hbits w → SFits w z
 fit-abs {w} {z} h k = fit (of z) (omega (arith, abs-of z))
+
+-- a shift brings a number nearer
+pub fits-shr : {w : Width} {z : ℤ} (m : ℕ) → SFits w z → SFits w (shrZ z m)
+fits-shr {w} {z} m f = record { sfits = lt-of-le-of-lt (mag-shr z m) (f .sfits) }
 
 nonNeg′ : (z : ℤ) → z ⁻ ≤ z ⁺ → T (nonNeg z)
 nonNeg′ (pos n) h = tt

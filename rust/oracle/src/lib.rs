@@ -1,9 +1,9 @@
-//! revc's inter prediction as the oracle: its files unchanged, stand-ins for what they miss,
-//! and one thin function a call that is compared.
+//! revc's inter prediction as the oracle: its files unchanged, stand-ins for what they miss, and
+//! a thin function for each call that is compared.
 
 #![allow(warnings)] // revc's files are taken as they are
 
-// Crates that revc's files name.
+// The crates that revc's files name.
 #[macro_use]
 extern crate standin_crates as lazy_static;
 extern crate standin_crates as cfg_if;
@@ -15,7 +15,8 @@ extern crate standin_derives as thiserror;
 mod standins;
 use standins::{dec, enc, region};
 
-// By include!, so that rustfmt leaves the files alone and that something can stand beside them.
+// By include!, so that rustfmt leaves the files alone, and so that stand-ins and calls can be put
+// beside them: a module `calls` reaches what is private in the file above it.
 mod api {
     include!("../revc/src/api/mod.rs");
     pub use crate::standins::frame::*;
@@ -25,26 +26,7 @@ mod def {
 }
 mod mc {
     include!("../revc/src/mc.rs");
-
-    pub mod oracle {
-        use crate::def::*;
-
-        /// `mv_clip` with list 0 alone in use.
-        pub fn mv_clip(
-            x: i16,
-            y: i16,
-            pic_w: i16,
-            pic_h: i16,
-            w: i16,
-            h: i16,
-            mv: [i16; 2],
-        ) -> [i16; 2] {
-            let mut mv_t = [[0; MV_D]; REFP_NUM];
-            let refi = [0, REFI_INVALID];
-            super::mv_clip(x, y, pic_w, pic_h, w, h, &refi, &[mv, [0; MV_D]], &mut mv_t);
-            mv_t[REFP_0]
-        }
-    }
+    pub mod calls;
 }
 mod picman {
     include!("../revc/src/picman.rs");
@@ -60,6 +42,5 @@ mod util {
     include!("../revc/src/util.rs");
 }
 
-pub use mc::oracle::mv_clip;
-
 pub mod cases;
+pub use mc::calls::mv_clip;

@@ -62,17 +62,28 @@ pub mod frame {
     }
 
     impl<T: Pixel> Frame<T> {
+        /// Chroma at half size both ways, as document 01 has it.
         pub fn new(width: usize, height: usize, chroma_sampling: ChromaSampling) -> Self {
-            let (px, py) = chroma_sampling.sampling_period();
-            let luma = |pad| Plane::new(width, height, 0, 0, pad, pad);
-            let chroma = |pad| Plane::new(width / px, height / py, px - 1, py - 1, pad, pad);
+            assert_eq!(chroma_sampling, ChromaSampling::Cs420);
+            let (l, c) = (PIC_PAD_SIZE_L, PIC_PAD_SIZE_C);
+            let luma = Plane::new(width, height, 0, 0, l, l);
+            let chroma = || Plane::new(width / 2, height / 2, 1, 1, c, c);
             Frame {
-                planes: [
-                    luma(PIC_PAD_SIZE_L),
-                    chroma(PIC_PAD_SIZE_C),
-                    chroma(PIC_PAD_SIZE_C),
-                ],
+                planes: [luma, chroma(), chroma()],
             }
+        }
+    }
+
+    /// Document 01's origins, strides and rows.
+    #[test]
+    fn frame_sizes() {
+        for (width, luma, chroma) in [(4, 176, 96), (8128, 8288, 4160)] {
+            let frame = Frame::<u16>::new(width, 4, ChromaSampling::Cs420);
+            let sizes = frame.planes.each_ref().map(|p| &p.cfg);
+            assert_eq!(sizes.map(|p| p.xorigin), [80, 48, 48]);
+            assert_eq!(sizes.map(|p| p.yorigin), [80, 40, 40]);
+            assert_eq!(sizes.map(|p| p.stride), [luma, chroma, chroma]);
+            assert_eq!(sizes.map(|p| p.alloc_height), [164, 82, 82]);
         }
     }
 }
@@ -137,7 +148,7 @@ pub mod enc {
     use crate::def::pel;
     use std::{cell::RefCell, rc::Rc};
 
-    /* quantization parameter range */
+    // Stand for two constants that api/mod.rs reads; EVC's range, unused here.
     pub const MIN_QUANT: u8 = 0;
     pub const MAX_QUANT: u8 = 51;
 

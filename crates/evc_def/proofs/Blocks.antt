@@ -1,0 +1,64 @@
+-- What the checks leave: an accepted block is allowed in both directions. Assumes nothing.
+use mathlib.Core.Bool.{Bool, true, false, not, _&&_, _||_}
+use mathlib.Core.Logic.{⊎-elim}
+use mathlib.Core.Path.{_≡_, subst}
+use Prim.Native.Nat.{ℕ, _+_, _%_, _≤_}
+use native.Mathlib.Omega.{arith}
+use lib.Dec.{T, leb, eqb, leb→le, eqb→eq}
+use mir.Facts.{and-yes}
+use Rattle.evc_def.specs.Blocks.{isPictureSide, isBlockSide, isInside, badPicture, badBlock, Allowed}
+use Rattle.evc_def.specs.Codes.{firstOf, blockChecks}
+use Rattle.evc_def.specs.declared.EvcBlock.{EvcBlock}
+use Rattle.evc_def.proofs.Codes.{accepted, or-yes}
+
+-- a block's side is a multiple of 4 from 4 to 64
+side-is : (n : ℕ) → T (isBlockSide n) → (4 ≤ n) × (n ≤ 64) × (n % 4 ≡ 0)
+side-is n t =
+    ⊎-elim
+    (λ t. ⊎-elim
+    (λ t. ⊎-elim
+    (λ t. ⊎-elim
+    (λ t. let e = eqb→eq n 4 t in omega arith)
+    (λ t. let e = eqb→eq n 8 t in omega arith) (or-yes (eqb n 4) (eqb n 8) t))
+    (λ t. let e = eqb→eq n 16 t in omega arith) (or-yes (eqb n 4 || eqb n 8) (eqb n 16) t))
+    (λ t. let e = eqb→eq n 32 t in omega arith) (or-yes (eqb n 4 || eqb n 8 || eqb n 16) (eqb n 32) t))
+    (λ t. let e = eqb→eq n 64 t in omega arith) (or-yes (eqb n 4 || eqb n 8 || eqb n 16 || eqb n 32) (eqb n 64) t)
+
+allowed-side : (size place side : ℕ) → T (isPictureSide size) → T (isBlockSide side) → T (isInside size place side) → Allowed size place side
+allowed-side size place side p s i =
+    let b = side-is side s in
+    let p₁ = and-yes (leb 4 size && leb size 8128) (eqb (size % 4) 0) p in
+    let p₂ = and-yes (leb 4 size) (leb size 8128) (p₁ .0) in
+    let i₁ = and-yes (eqb (place % 4) 0) (leb (place + side) size) i in
+    record {
+      size-fours = eqb→eq (size % 4) 0 (p₁ .1);
+      place-fours = eqb→eq (place % 4) 0 (i₁ .0);
+      side-fours = b .2;
+      size-high = leb→le size 8128 (p₂ .1);
+      side-low = b .0;
+      side-high = b .1;
+      inside = leb→le (place + side) size (i₁ .1);
+    }
+
+both : (a b : Bool) → not (a && b) ≡ false → T a × T b
+both true true e = (tt, tt)
+both true false e = absurd (subst T e tt)
+both false b e = absurd (subst T e tt)
+
+-- a picture and a block that no check refuses
+pub allowed : (b : EvcBlock) → badPicture (b .«pic_w») (b .«pic_h») ≡ false → badBlock b ≡ false → Allowed (b .«pic_w») (b .x) (b .w) × Allowed (b .«pic_h») (b .y) (b .h)
+unfolding badPicture badBlock
+allowed b p q =
+    let p₁ = both (isPictureSide (b .«pic_w»)) (isPictureSide (b .«pic_h»)) p in
+    let q₁ = both (isBlockSide (b .w) && isBlockSide (b .h) && isInside (b .«pic_w») (b .x) (b .w)) (isInside (b .«pic_h») (b .y) (b .h)) q in
+    let q₂ = and-yes (isBlockSide (b .w) && isBlockSide (b .h)) (isInside (b .«pic_w») (b .x) (b .w)) (q₁ .0) in
+    let q₃ = and-yes (isBlockSide (b .w)) (isBlockSide (b .h)) (q₂ .0) in (
+      allowed-side (b .«pic_w») (b .x) (b .w) (p₁ .0) (q₃ .0) (q₂ .1),
+      allowed-side (b .«pic_h») (b .y) (b .h) (p₁ .1) (q₃ .1) (q₁ .1),
+    )
+
+pub allowed-block : (b : EvcBlock) → firstOf (blockChecks b) ≡ 0 → Allowed (b .«pic_w») (b .x) (b .w) × Allowed (b .«pic_h») (b .y) (b .h)
+allowed-block b e =
+    let f = accepted 1 _ _ (omega arith) e in
+    let g = accepted 2 _ _ (omega arith) (f .1) in
+    allowed b (f .0) (g .0)

@@ -1,0 +1,244 @@
+ghost use mathlib.Core.Path.{_≡_};
+ghost use mathlib.Core.Bool.{not, _&&_};
+ghost use mathlib.Core.List.{[]};
+ghost use Prim.Native.Nat.{ℕ, _*_, _/_, _<_, _^_};
+ghost use lib.ListN.{getD};
+ghost use lib.IntN.{pos, _+ℤ_, _*ℤ_};
+ghost use lib.Signed.{shrZ, _≤ℤ_};
+ghost use mir.Syntax.{w32};
+ghost use mir.Val.{SFits};
+ghost use Rattle.evc_def.specs.Blocks.{isPictureSide, isBlockSide, isInside, badPicture, badBlock};
+ghost use Rattle.evc_def.specs.Codes.{firstOf, blockChecks};
+ghost use Rattle.evc_def.specs.Tables.{tblCuDimOffset, tblMcLCoeff, tblMcCCoeff, isCoded, isIntra};
+
+// ---- def.rs: numbers
+
+pub const BIT_DEPTH: u16 = 10;
+
+pub const MAX_SAMPLE_VAL: u16 = (1 << BIT_DEPTH) - 1;
+
+pub const MAX_CU_LOG2: usize = 6;
+
+pub const MIN_CU_LOG2: usize = 2;
+
+pub const MAX_CU_SIZE: usize = 1 << MAX_CU_LOG2;
+
+pub const MAX_CU_DIM: usize = 1 << (MAX_CU_LOG2 + MAX_CU_LOG2);
+
+pub const PIC_PAD_SIZE_L: usize = MAX_CU_SIZE + 16;
+
+pub const PIC_PAD_SIZE_C: usize = PIC_PAD_SIZE_L >> 1;
+
+// Neighbouring block availability flags.
+pub const AVAIL_UP: u16 = 1 << 0;
+
+pub const AVAIL_LE: u16 = 1 << 1;
+
+pub const AVAIL_RI: u16 = 1 << 3;
+
+pub const AVAIL_UP_LE: u16 = 1 << 5;
+
+pub const AVAIL_UP_RI: u16 = 1 << 6;
+
+pub const AVAIL_LO_LE: u16 = 1 << 7;
+
+pub const AVAIL_LO_RI: u16 = 1 << 8;
+
+pub const AVAIL_RI_UP: u16 = 1 << 9;
+
+// A word of the SCU map: what the decoder noted of one unit of 4 by 4 samples.
+pub struct MCU(pub u32);
+
+impl MCU {
+    pub fn GET_COD(self) -> bool
+        ensures { λ r. ⌜ r ≡ isCoded (self .0) ⌝ }
+    {
+        (self.0 >> 31) % 2 == 1
+    }
+
+    pub fn GET_IF(self) -> bool
+        ensures { λ r. ⌜ r ≡ isIntra (self .0) ⌝ }
+    {
+        (self.0 >> 15) % 2 == 1
+    }
+
+    pub fn IS_COD_NIF(self) -> bool
+        ensures { λ r. ⌜ r ≡ isCoded (self .0) && not (isIntra (self .0)) ⌝ }
+    {
+        self.GET_COD() & !self.GET_IF()
+    }
+}
+
+// ---- tbl.rs and mc.rs: tables
+
+const tbl_cu_dim_offset: [usize; 3] = [0, MAX_CU_DIM, MAX_CU_DIM + (MAX_CU_DIM >> 2)];
+
+const tbl_mc_l_coeff: [[i32; 6]; 4] = [
+    [0, 0, 64, 0, 0, 0],
+    [1, -5, 52, 20, -5, 1],
+    [2, -10, 40, 40, -10, 2],
+    [1, -5, 20, 52, -5, 1],
+];
+
+const tbl_mc_c_coeff: [[i32; 4]; 8] = [
+    [0, 64, 0, 0],
+    [-2, 58, 10, -2],
+    [-4, 52, 20, -4],
+    [-6, 46, 30, -6],
+    [-8, 40, 40, -8],
+    [-6, 30, 46, -6],
+    [-4, 20, 52, -4],
+    [-2, 10, 58, -2],
+];
+
+// Where plane `c` (Y, U, V) begins in a lent block.
+pub fn cu_dim_offset(c: usize) -> usize
+    requires { ⌜ c < 3 ⌝ }
+    ensures { λ r. ⌜ r ≡ getD tblCuDimOffset c 0 ⌝ }
+{
+    tbl_cu_dim_offset[c]
+}
+
+pub fn mc_l_coeff(dx: usize) -> [i32; 6]
+    requires { ⌜ dx < 4 ⌝ }
+    ensures { λ r. ⌜ r ≡ getD tblMcLCoeff dx [] ⌝ }
+{
+    tbl_mc_l_coeff[dx]
+}
+
+pub fn mc_c_coeff(dx: usize) -> [i32; 4]
+    requires { ⌜ dx < 8 ⌝ }
+    ensures { λ r. ⌜ r ≡ getD tblMcCCoeff dx [] ⌝ }
+{
+    tbl_mc_c_coeff[dx]
+}
+
+// ---- places: whole samples, quarter samples and units of four samples are three types
+
+// A place or a size in whole samples.
+pub struct Pel(pub i32);
+// A position in quarter samples.
+pub struct Qpel(pub i32);
+// An index in units of four samples (SCU).
+pub struct Scu(pub u32);
+
+impl Pel {
+    pub fn new(n: u32) -> Pel
+        requires { ⌜ n < 2 ^ 31 ⌝ }
+        ensures { λ r. ⌜ r .0 ≡ pos n ⌝ }
+    {
+        Pel(n as i32)
+    }
+
+    pub fn qpel(self) -> Qpel
+        requires { ⌜ SFits w32 (pos 4 *ℤ self .0) ⌝ }
+        ensures { λ r. ⌜ r .0 ≡ pos 4 *ℤ self .0 ⌝ }
+    {
+        Qpel(4 * self.0)
+    }
+
+    // PEL2SCU: the unit that holds the sample.
+    pub fn scu(self) -> Scu
+        requires { ⌜ pos 0 ≤ℤ self .0 ⌝ }
+        ensures { λ r. ⌜ pos (r .0) ≡ shrZ (self .0) 4 ⌝ }
+    {
+        Scu((self.0 >> MIN_CU_LOG2) as u32)
+    }
+}
+
+impl Scu {
+    // The unit's first sample.
+    pub fn pel(self) -> Pel
+        requires { ⌜ self .0 < 2 ^ 29 ⌝ }
+        ensures { λ r. ⌜ r .0 ≡ pos (4 * self .0) ⌝ }
+    {
+        Pel((4 * self.0) as i32)
+    }
+}
+
+impl Qpel {
+    // The whole sample at or before the position.
+    pub fn pel(self) -> Pel
+        ensures { λ r. ⌜ r .0 ≡ shrZ (self .0) 4 ⌝ }
+    {
+        Pel(self.0 >> 2)
+    }
+
+    pub fn moved(self, mv: i16) -> Qpel
+        requires { ⌜ SFits w32 (self .0 +ℤ mv) ⌝ }
+        ensures { λ r. ⌜ r .0 ≡ self .0 +ℤ mv ⌝ }
+    {
+        Qpel(self.0 + mv as i32)
+    }
+}
+
+// ---- what a call takes
+
+#[repr(C)]
+pub struct EvcMv {
+    pub x: i16,
+    pub y: i16,
+}
+
+// A block of a picture, in luma samples.
+#[repr(C)]
+pub struct EvcBlock {
+    pub pic_w: u32,
+    pub pic_h: u32,
+    pub x: u32,
+    pub y: u32,
+    pub w: u32,
+    pub h: u32,
+}
+
+const MAX_PIC_SIZE: u32 = 8128;
+
+fn is_picture_side(n: u32) -> bool
+    ensures { λ r. ⌜ r ≡ isPictureSide n ⌝ }
+{
+    (4 <= n) & (n <= MAX_PIC_SIZE) & (n % 4 == 0)
+}
+
+fn is_block_side(n: u32) -> bool
+    ensures { λ r. ⌜ r ≡ isBlockSide n ⌝ }
+{
+    (n == 4) | (n == 8) | (n == 16) | (n == 32) | (n == 64)
+}
+
+fn is_inside(size: u32, place: u32, side: u32) -> bool
+    ensures { λ r. ⌜ r ≡ isInside size place side ⌝ }
+{
+    if side <= size {
+        (place % 4 == 0) & (place <= size - side)
+    } else {
+        false
+    }
+}
+
+pub fn bad_picture(pic_w: u32, pic_h: u32) -> bool
+    ensures { λ r. ⌜ r ≡ badPicture «pic_w» «pic_h» ⌝ }
+{
+    !(is_picture_side(pic_w) & is_picture_side(pic_h))
+}
+
+pub fn bad_block(b: EvcBlock) -> bool
+    ensures { λ r. ⌜ r ≡ badBlock b ⌝ }
+{
+    !(is_block_side(b.w)
+        & is_block_side(b.h)
+        & is_inside(b.pic_w, b.x, b.w)
+        & is_inside(b.pic_h, b.y, b.h))
+}
+
+// The checks that every call on a block begins with, in rising number.
+pub fn block_code(b: EvcBlock) -> u32
+    ensures { λ r. ⌜ r ≡ firstOf (blockChecks b) ⌝ }
+{
+    if bad_picture(b.pic_w, b.pic_h) {
+        return 1;
+    }
+    if bad_block(b) {
+        return 2;
+    }
+    0
+}
