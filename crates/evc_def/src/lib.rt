@@ -7,6 +7,7 @@ ghost use lib.IntN.{pos, _+ℤ_, _*ℤ_};
 ghost use lib.Signed.{shrZ, _≤ℤ_};
 ghost use mir.Syntax.{w32};
 ghost use mir.Val.{SFits};
+ghost use Rattle.evc_int.specs.Whole.{clip3};
 ghost use Rattle.evc_def.specs.Blocks.{isPictureSide, isBlockSide, isInside, badPicture, badBlock};
 ghost use Rattle.evc_def.specs.Codes.{firstOf, blockChecks};
 ghost use Rattle.evc_def.specs.Tables.{tblCuDimOffset, tblMcLCoeff, tblMcCCoeff, isCoded, isIntra};
@@ -169,6 +170,19 @@ impl Qpel {
         ensures { λ r. ⌜ r .0 ≡ self .0 +ℤ mv ⌝ }
     {
         Qpel(self.0 + mv as i32)
+    }
+
+    // EVC_CLIP3
+    pub fn clip3(self, min: Qpel, max: Qpel) -> Qpel
+        ensures { λ r. ⌜ r .0 ≡ clip3 (min .0) (max .0) (self .0) ⌝ }
+    {
+        if self.0 < min.0 {
+            return min;
+        }
+        if self.0 > max.0 {
+            return max;
+        }
+        self
     }
 }
 

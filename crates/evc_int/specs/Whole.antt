@@ -1,6 +1,8 @@
--- Whole numbers beside the kit's ℤ: a negative numeral, the two parts of a number, and its low bits.
+-- Whole numbers beside the kit's ℤ: a negative numeral, the two parts of a number, its low bits, and clipping to a range.
+use mathlib.Core.Bool.{cond}
 use Prim.Native.Nat.{ℕ, suc, _-_, _%_}
 use lib.IntN.{ℤ, pos, negsuc, negℤ}
+use lib.Signed.{ltZ}
 
 -- a negative number, as − 256
 infix 80 −_
@@ -24,3 +26,7 @@ infix 70 _modulo_
 abbrev pub _modulo_ : ℤ → ℕ → ℕ
 pos n modulo m = n % m
 negsuc n modulo m = m - suc (n % m)
+
+-- z clipped to lo .. hi: EVC_CLIP3 of src/util.rs; document 01 says 'held to'
+unfoldable pub clip3 : ℤ → ℤ → ℤ → ℤ
+clip3 lo hi z = cond (ltZ z lo) lo (cond (ltZ hi z) hi z)

@@ -1,0 +1,140 @@
+-- Laws of clipping. Assumes nothing.
+use mathlib.Core.Bool.{Bool, true, false, cond}
+use mathlib.Core.Logic.{_⊎_, inl, inr}
+use mathlib.Core.Path.{_≡_, refl, sym, ap, subst, _∙_}
+use Prim.Native.Nat.{ℕ, _+_, _-_, _*_, _/_, _%_, _≤_, _<_}
+use native.Mathlib.Omega.{arith}
+use lib.Dec.{lit<}
+use lib.IntN.{ℤ, pos, _+ℤ_, _-ℤ_, _*ℤ_}
+use lib.Signed.{ltZ, _≤ℤ_}
+use mir.Syntax.{w16}
+use mir.Val.{SFits}
+use Rattle.evc_int.specs.Whole.{−_, _⁺, _⁻, _modulo_, clip3}
+use Rattle.evc_int.proofs.Whole.{Tested, under, not-under, of}
+use Rattle.evc_int.proofs.Expressions.{Ex, !, _⊕_, _⊖_, _⊗_, value, more, less, solve, fact, solve≤, tested-ex}
+use Rattle.evc_int.proofs.Division.{split-only}
+use Rattle.evc_int.proofs.Machine.{fit, rng}
+use Rattle.evc_def.specs.Blocks.{Allowed}
+use Rattle.evc_clip.specs.Clip.{clipComponent}
+
+-- ---- a clipped component by its three cases, as facts of naturals
+
+data Clips (W x w : ℕ) (mv r : ℤ) : Type 0 where
+  low : 4 * x + mv ⁺ + 256 < mv ⁻ → r ⁺ + 4 * x + 256 ≡ r ⁻ → Clips W x w mv r
+  high : 4 * W + 256 + mv ⁻ < 4 * x + mv ⁺ + 4 * w → r ⁺ + 4 * x + 4 * w ≡ 4 * W + 256 + r ⁻ → Clips W x w mv r
+  kept : mv ⁻ ≤ 4 * x + mv ⁺ + 256 → 4 * x + mv ⁺ + 4 * w ≤ 4 * W + 256 + mv ⁻ → r ≡ mv → Clips W x w mv r
+
+clips : (W x w : ℕ) (mv : ℤ) → Clips W x w mv (clipComponent W x w mv)
+unfolding clipComponent
+clips W x w mv = go _ _ (tested-ex place (! (− 256))) (tested-ex limit last)
+  where
+    place : Ex
+    place = ! (pos 4) ⊗ ! (pos x) ⊕ ! mv
+
+    limit : Ex
+    limit = ! (pos 4) ⊗ (! (pos W) ⊖ ! (pos 1) ⊕ ! (pos 64))
+
+    last : Ex
+    last = place ⊕ ! (pos 4) ⊗ ! (pos w) ⊖ ! (pos 4)
+
+    lowest : Ex
+    lowest = ! (− 256) ⊖ ! (pos 4) ⊗ ! (pos x)
+
+    highest : Ex
+    highest = limit ⊖ ! (pos 4) ⊗ ! (pos x) ⊖ ! (pos 4) ⊗ ! (pos w) ⊕ ! (pos 4)
+
+    go : (s t : Bool) → Tested (more place + 256) (0 + less place) s → Tested (more limit + less last) (more last + less limit) t → Clips W x w mv (cond s (value lowest) (cond t (value highest) mv))
+    go true t (under a) b = low (omega arith) (omega (arith, fact (! (value lowest)) lowest refl))
+    go false true (not-under a) (under b) = high (omega arith) (omega (arith, fact (! (value highest)) highest refl))
+    go false false (not-under a) (not-under b) = kept (omega arith) (omega arith) refl
+
+-- ---- the clipped place: the place itself, clipped to -256 .. 4 (W + 64 - w)
+
+abbrev pub placeOf : ℕ → ℤ → ℤ
+placeOf x mv = pos 4 *ℤ pos x +ℤ mv
+
+abbrev pub lastPlace : ℕ → ℕ → ℤ
+lastPlace W w = pos 4 *ℤ (pos W +ℤ pos 64 -ℤ pos w)
+
+module _ (W x w : ℕ) (mv : ℤ) (h : w ≤ W) where
+  pub clipped-place : placeOf x (clipComponent W x w mv) ≡ clip3 (− 256) (lastPlace W w) (placeOf x mv)
+  unfolding clip3
+  clipped-place = go _ _ _ (clips W x w mv) (tested-ex place (! (− 256))) (tested-ex top place)
+    where
+      place : Ex
+      place = ! (pos 4) ⊗ ! (pos x) ⊕ ! mv
+
+      top : Ex
+      top = ! (pos 4) ⊗ (! (pos W) ⊕ ! (pos 64) ⊖ ! (pos w))
+
+      new : ℤ → Ex
+      new r = ! (pos 4) ⊗ ! (pos x) ⊕ ! r
+
+      go : (r : ℤ) (s t : Bool) → Clips W x w mv r → Tested (more place + 256) (0 + less place) s → Tested (more top + less place) (more place + less top) t → value (new r) ≡ cond s (− 256) (cond t (value top) (value place))
+      go r true t (low a p) (under b) c = solve (new r) (! (− 256)) (omega arith)
+      go r true t (high a p) (under b) c = absurd (omega arith)
+      go r true t (kept a b p) (under d) c = absurd (omega arith)
+      go r false t (low a p) (not-under b) c = absurd (omega arith)
+      go r false true (high a p) (not-under b) (under c) = solve (new r) top (omega arith)
+      go r false false (high a p) (not-under b) (not-under c) = absurd (omega arith)
+      go r false true (kept a b p) (not-under d) (under c) = absurd (omega arith)
+      go r false false (kept a b p) (not-under d) (not-under c) = ap (λ (z : ℤ). placeOf x z) p
+
+-- ---- for a block that the checks allow
+
+module _ (W x w : ℕ) (mv : ℤ) (ok : Allowed W x w) where
+  -- the clipped vector fits 16 bits
+  pub clipped-fits : SFits w16 mv → SFits w16 (clipComponent W x w mv)
+  clipped-fits f = go (clipComponent W x w mv) (clips W x w mv)
+    where
+      go : (r : ℤ) → Clips W x w mv r → SFits w16 r
+      go r (low a p) = fit (of r) (omega arith)
+      go r (high a p) = fit (of r) (omega arith)
+      go r (kept a b p) = subst (SFits w16) (sym p) f
+
+  -- the clipped place lies in -256 .. 4 (W + 64 - w)
+  pub clipped-range : (− 256 ≤ℤ placeOf x (clipComponent W x w mv)) × (placeOf x (clipComponent W x w mv) ≤ℤ lastPlace W w)
+  clipped-range = go (clipComponent W x w mv) (clips W x w mv)
+    where
+      at : ℤ → Ex
+      at r = ! (pos 4) ⊗ ! (pos x) ⊕ ! r
+
+      top : Ex
+      top = ! (pos 4) ⊗ (! (pos W) ⊕ ! (pos 64) ⊖ ! (pos w))
+
+      go : (r : ℤ) → Clips W x w mv r → (− 256 ≤ℤ placeOf x r) × (placeOf x r ≤ℤ lastPlace W w)
+      go r (low a p) = (solve≤ (! (− 256)) (at r) (omega arith), solve≤ (at r) top (omega arith))
+      go r (high a p) = (solve≤ (! (− 256)) (at r) (omega arith), solve≤ (at r) top (omega arith))
+      go r (kept a b p) =
+          let e = fact (! r) (! mv) p in
+          (solve≤ (! (− 256)) (at r) (omega arith), solve≤ (at r) top (omega arith))
+
+  -- the place of a component that was moved is a multiple of 16, so its phase is 0 in luma and in chroma
+  pub moved-aligned : (clipComponent W x w mv ≡ mv → ⊥) → placeOf x (clipComponent W x w mv) modulo 16 ≡ 0
+  moved-aligned moved = go (clipComponent W x w mv) moved (clips W x w mv)
+    where
+      at : ℤ → Ex
+      at r = ! (pos 4) ⊗ ! (pos x) ⊕ ! r
+
+      q : ℕ
+      q = (W + 64 - w) / 4
+
+      go : (r : ℤ) → (r ≡ mv → ⊥) → Clips W x w mv r → placeOf x r modulo 16 ≡ 0
+      go r n (low a p) = split-only 16 (placeOf x r) (− 16) 0 (lit< tt) (solve (at r) (! (pos 16) ⊗ ! (− 16) ⊕ ! (pos 0)) (omega arith)) .1
+      go r n (high a p) = split-only 16 (placeOf x r) (pos q) 0 (lit< tt) (solve (at r) (! (pos 16) ⊗ ! (pos q) ⊕ ! (pos 0)) (omega arith)) .1
+      go r n (kept a b p) = absurd (n p)
+
+  -- clipping twice changes nothing more
+  pub clipped-twice : clipComponent W x w (clipComponent W x w mv) ≡ clipComponent W x w mv
+  clipped-twice = go (clipComponent W x w mv) (clips W x w mv) (clipComponent W x w (clipComponent W x w mv)) (clips W x w (clipComponent W x w mv))
+    where
+      go : (r : ℤ) → Clips W x w mv r → (s : ℤ) → Clips W x w r s → s ≡ r
+      go r (low a p) s (low b q) = absurd (omega arith)
+      go r (low a p) s (high b q) = absurd (omega arith)
+      go r (low a p) s (kept b c q) = q
+      go r (high a p) s (low b q) = absurd (omega arith)
+      go r (high a p) s (high b q) = absurd (omega arith)
+      go r (high a p) s (kept b c q) = q
+      go r (kept a b p) s (low c q) = let e = fact (! r) (! mv) p in absurd (omega arith)
+      go r (kept a b p) s (high c q) = let e = fact (! r) (! mv) p in absurd (omega arith)
+      go r (kept a b p) s (kept c d q) = q
