@@ -6,7 +6,7 @@ use lib.Dec.{eqb}
 use lib.IntN.{ℤ, pos, _+ℤ_, _-ℤ_, _*ℤ_}
 use lib.Signed.{ltZ}
 use Rattle.evc_int.specs.Whole.{−_}
-use Rattle.evc_def.specs.Codes.{firstOf, blockChecks}
+use Rattle.evc_def.specs.Codes.{firstOf, blockChecks, zeroMv}
 use Rattle.evc_def.specs.declared.EvcBlock.{EvcBlock}
 use Rattle.evc_def.specs.declared.EvcMv.{EvcMv}
 use Rattle.evc_clip.specs.declared.EvcClipped.{EvcClipped}
@@ -26,11 +26,11 @@ clipMv b mv =
       y = clipComponent (b .«pic_h») (b .y) (b .h) (mv .y);
     }
 
--- the call: "Error: 1, 2."; "A refusal returns zero for every other number"
+-- the call: "Error: 1, 2."
 unfoldable pub mvClip : EvcBlock → EvcMv → EvcClipped
 mvClip b mv =
     let code = firstOf (blockChecks b) in
-    record { code = code; mv = cond (eqb code 0) (clipMv b mv) (record { x = pos 0; y = pos 0 }) }
+    record { code = code; mv = cond (eqb code 0) (clipMv b mv) zeroMv }
 
 -- 'Edges to try': the lines on clipping
 abbrev pub ClipEdges : Type 0

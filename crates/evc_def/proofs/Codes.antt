@@ -1,6 +1,6 @@
 -- Laws of `firstOf`: a check that refuses, one that does not, an accepted call, and the lowest number. Assumes nothing.
 use mathlib.Core.Bool.{Bool, true, false, cond, _&&_, _||_}
-use mathlib.Core.List.{List, [], _∷_}
+use mathlib.Core.List.{List, [], _∷_, _++_}
 use mathlib.Core.Logic.{⊎-elim, _⊎_, inl, inr}
 use mathlib.Core.Path.{_≡_, refl, sym, subst}
 use Prim.Native.Nat.{ℕ, zero, suc, _≤_, _<_}
@@ -77,3 +77,23 @@ returned (n when false ∷ checks) h = or-later (eqb (firstOf checks) n && false
     or-later : (a b : Bool) → T b → T (a || b)
     or-later true b t = tt
     or-later false b t = t
+
+-- ---- checks in two parts: the first part refuses, or the second decides
+
+pub stops : (xs ys : List Check) → (firstOf xs ≡ 0 → ⊥) → firstOf (xs ++ ys) ≡ firstOf xs
+unfolding firstOf
+stops [] ys n = absurd (n refl)
+stops (n when true ∷ xs) ys h = refl
+stops (n when false ∷ xs) ys h = stops xs ys h
+
+pub goes-on : (m : ℕ) (xs ys : List Check) → T (rising m xs) → firstOf xs ≡ 0 → firstOf (xs ++ ys) ≡ firstOf ys
+unfolding firstOf
+goes-on m [] ys r e = refl
+goes-on m (n when true ∷ xs) ys r e = let l = ltb→lt m n (and-yes (ltb m n) (rising n xs) r .0) in absurd (omega arith)
+goes-on m (n when false ∷ xs) ys r e = goes-on n xs ys (and-yes (ltb m n) (rising n xs) r .1) e
+
+pub both-accepted : (m : ℕ) (xs ys : List Check) → T (rising m xs) → firstOf (xs ++ ys) ≡ 0 → (firstOf xs ≡ 0) × (firstOf ys ≡ 0)
+unfolding firstOf
+both-accepted m [] ys r e = (refl, e)
+both-accepted m (n when true ∷ xs) ys r e = let l = ltb→lt m n (and-yes (ltb m n) (rising n xs) r .0) in absurd (omega arith)
+both-accepted m (n when false ∷ xs) ys r e = both-accepted n xs ys (and-yes (ltb m n) (rising n xs) r .1) e

@@ -2,8 +2,10 @@
 use mathlib.Core.Bool.{Bool, cond}
 use mathlib.Core.List.{List, [], _∷_}
 use Prim.Native.Nat.{ℕ}
+use lib.IntN.{pos}
 use Rattle.evc_def.specs.Blocks.{badPicture, badBlock}
 use Rattle.evc_def.specs.declared.EvcBlock.{EvcBlock}
+use Rattle.evc_def.specs.declared.EvcMv.{EvcMv}
 
 -- a check: the number that a call returns, and whether it refuses
 infix 70 _when_
@@ -18,3 +20,7 @@ firstOf (n when refuses ∷ checks) = cond refuses n (firstOf checks)
 -- the checks that every call on a block begins with
 abbrev pub blockChecks : EvcBlock → List Check
 blockChecks b = 1 when badPicture (b .«pic_w») (b .«pic_h») ∷ 2 when badBlock b ∷ []
+
+-- "A refusal returns zero for every other number"
+abbrev pub zeroMv : EvcMv
+zeroMv = record { x = pos 0; y = pos 0 }

@@ -10,7 +10,7 @@ ghost use mir.Val.{SFits};
 ghost use Rattle.evc_int.specs.Whole.{clip3};
 ghost use Rattle.evc_def.specs.Blocks.{isPictureSide, isBlockSide, isInside, badPicture, badBlock};
 ghost use Rattle.evc_def.specs.Codes.{firstOf, blockChecks};
-ghost use Rattle.evc_def.specs.Tables.{tblCuDimOffset, tblMcLCoeff, tblMcCCoeff, isCoded, isIntra};
+ghost use Rattle.evc_def.specs.Tables.{tblCuDimOffset, tblMcLCoeff, tblMcCCoeff, isBit, isCoded, isIntra};
 
 // ---- def.rs: numbers
 
@@ -46,6 +46,14 @@ pub const AVAIL_LO_LE: u16 = 1 << 7;
 pub const AVAIL_LO_RI: u16 = 1 << 8;
 
 pub const AVAIL_RI_UP: u16 = 1 << 9;
+
+// Whether bit `bit` of the flags is set.
+pub fn GET_AVAIL_FLAG(avail: u16, bit: u16) -> bool
+    requires { ⌜ bit < 16 ⌝ }
+    ensures { λ r. ⌜ r ≡ isBit bit avail ⌝ }
+{
+    (avail >> bit) % 2 == 1
+}
 
 // A word of the SCU map: what the decoder noted of one unit of 4 by 4 samples.
 pub struct MCU(pub u32);

@@ -4,8 +4,7 @@ use mathlib.Core.Path.{_≡_, refl, sym, _∙_}
 use borrow.Author.Needs.{needs}
 use borrow.Author.Tests.{eq-eqb, ne-eqb}
 use Prim.Native.Nat.{ℕ}
-use lib.IntN.{pos}
-use Rattle.evc_def.specs.Codes.{firstOf, blockChecks}
+use Rattle.evc_def.specs.Codes.{firstOf, blockChecks, zeroMv}
 use Rattle.evc_def.specs.declared.EvcBlock.{EvcBlock}
 use Rattle.evc_def.specs.declared.EvcMv.{EvcMv}
 use Rattle.evc_def.proofs.Blocks.{allowed-block}
@@ -14,7 +13,7 @@ use Rattle.evc_clip.proofs.mv_clip.Statement.{statement}
 use Rattle.evc_clip.proofs.mv_clip.Tie as tie
 
 module _ (b : EvcBlock) (mv : EvcMv) where
-  refusal : (code : ℕ) → code ≡ firstOf (blockChecks b) → (code ≡ 0 → ⊥) → record { code = code; mv = record { x = pos 0; y = pos 0 } } ≡ mvClip b mv
+  refusal : (code : ℕ) → code ≡ firstOf (blockChecks b) → (code ≡ 0 → ⊥) → record { code = code; mv = zeroMv } ≡ mvClip b mv
   unfolding mvClip
   refusal code e n = rw (sym e, ne-eqb code 0 n)
 

@@ -1,0 +1,71 @@
+-- Document 01, 'Direct vectors'.
+use mathlib.Core.Bool.{Bool, cond, _&&_, _||_}
+use mathlib.Core.List.{List, [], _∷_, _++_}
+use mathlib.Core.Path.{_≡_, refl}
+use Prim.Native.Nat.{ℕ, _*_}
+use lib.Dec.{ltb, eqb}
+use lib.IntN.{ℤ, pos, negℤ, _-ℤ_, _*ℤ_}
+use lib.ListN.{length}
+use lib.Signed.{quotZ}
+use Rattle.evc_int.specs.Whole.{−_}
+use Rattle.evc_int.specs.LowBits.{low16}
+use Rattle.evc_def.specs.Codes.{Check, _when_, firstOf, blockChecks, zeroMv}
+use Rattle.evc_def.specs.declared.EvcBlock.{EvcBlock}
+use Rattle.evc_def.specs.declared.EvcMv.{EvcMv}
+use Rattle.evc_util.specs.Units.{unitCount, scup, mvLen, mvAt}
+use Rattle.evc_util.specs.declared.EvcDirect.{EvcDirect}
+use Rattle.evc_util.specs.declared.Pocs.{Pocs}
+
+-- "Order counts are 0 to 32,767."
+abbrev pub maxPoc : ℕ
+maxPoc = 32767
+
+unfoldable pub pocTooLarge : Pocs → Bool
+pocTooLarge p = ltb maxPoc (p .poc) || ltb maxPoc (p .poc0) || ltb maxPoc (p .poc1) || ltb maxPoc (p .«list_poc0»)
+
+-- "Error: 1, 2, 4, 5."
+abbrev pub directChecks : EvcBlock → Pocs → Bool → ℕ → List Check
+directChecks b p «has_col» «col_mv» =
+    blockChecks b ++ (4 when («has_col» && ltb «col_mv» (mvLen * unitCount b)) ∷ 5 when pocTooLarge p ∷ [])
+
+-- "co = count of reference 1 less its first listed count"
+abbrev pub dpocCo : Pocs → ℤ
+dpocCo p = pos (p .poc1) -ℤ pos (p .«list_poc0»)
+
+-- the exact quotient of "(count - count 0) × v / co, .. -(count 1 - count) × v / co, truncated toward zero"
+abbrev pub quotient0 : Pocs → ℤ → ℤ
+quotient0 p v = quotZ ((pos (p .poc) -ℤ pos (p .poc0)) *ℤ v) (dpocCo p)
+
+abbrev pub quotient1 : Pocs → ℤ → ℤ
+quotient1 p v = quotZ (negℤ (pos (p .poc1) -ℤ pos (p .poc)) *ℤ v) (dpocCo p)
+
+-- "collocated vector from list 0, zero without a map"
+abbrev pub collocated : EvcBlock → Bool → List ℤ → EvcMv
+collocated b «has_col» col = cond «has_col» (mvAt col (scup b) 0) zeroMv
+
+-- "and only the low sixteen bits are kept, as a signed number"
+abbrev pub scaled : (ℤ → ℤ) → EvcMv → EvcMv
+scaled quotient mv = record { x = low16 (quotient (mv .x)); y = low16 (quotient (mv .y)) }
+
+-- "all four numbers are 0 if co = 0"
+unfoldable pub directVectors : Pocs → EvcMv → EvcDirect
+directVectors p mv =
+    cond (eqb (p .poc1) (p .«list_poc0»)) (record { code = 0; mv0 = zeroMv; mv1 = zeroMv })
+    (record { code = 0; mv0 = scaled (quotient0 p) mv; mv1 = scaled (quotient1 p) mv })
+
+unfoldable pub getMvDir : EvcBlock → Pocs → Bool → List ℤ → EvcDirect
+getMvDir b p «has_col» col =
+    let code = firstOf (directChecks b p «has_col» (length col)) in
+    cond (eqb code 0) (directVectors p (collocated b «has_col» col)) (record { code = code; mv0 = zeroMv; mv1 = zeroMv })
+
+-- 'Edges to try': the two lines on direct vectors
+abbrev pub DirectEdges : Type 0
+DirectEdges =
+    (directVectors (record { poc = 4; poc0 = 0; poc1 = 8; «list_poc0» = 0 }) (record { x = pos 7; y = − 7 })
+      ≡ record { code = 0; mv0 = record { x = pos 3; y = − 3 }; mv1 = record { x = − 3; y = pos 3 } })
+    × (directVectors (record { poc = 5; poc0 = 0; poc1 = 6; «list_poc0» = 5 }) (record { x = pos 10000; y = pos 0 })
+      ≡ record { code = 0; mv0 = record { x = − 15536; y = pos 0 }; mv1 = record { x = − 10000; y = pos 0 } })
+
+pub directEdges : DirectEdges
+unfolding directVectors low16
+directEdges = (refl, refl)

@@ -1,0 +1,4 @@
+pub mod Units
+pub mod Flags
+pub mod Candidates
+pub mod Direct

@@ -1,0 +1,239 @@
+ghost use mathlib.Core.Path.{_≡_};
+ghost use mathlib.Core.Bool.{cond, true};
+ghost use lib.Dec.{ltb};
+ghost use Prim.Native.Nat.{ℕ, _+_, _*_, _/_, _<_, _≤_, _^_};
+ghost use lib.ListN.{length, getD};
+ghost use lib.IntN.{pos};
+ghost use Rattle.evc_def.specs.Blocks.{Allowed};
+ghost use Rattle.evc_def.specs.Codes.{firstOf};
+ghost use Rattle.evc_util.specs.Units.{unitCount, scup, hasUnit, Covers, mvLen, mvAt};
+ghost use Rattle.evc_util.specs.Flags.{unitWord, isInter, isNotIntra, flag, availLeft, availRight, availUp, availInter, availChecks, getAvailInter};
+use evc_def::AVAIL_LE;
+use evc_def::AVAIL_LO_LE;
+use evc_def::AVAIL_LO_RI;
+use evc_def::AVAIL_RI;
+use evc_def::AVAIL_RI_UP;
+use evc_def::AVAIL_UP;
+use evc_def::AVAIL_UP_LE;
+use evc_def::AVAIL_UP_RI;
+use evc_def::EvcBlock;
+use evc_def::EvcMv;
+use evc_def::MCU;
+use evc_def::Pel;
+use evc_def::Scu;
+
+// ---- units
+
+// PEL2SCU: samples in units of four.
+fn scu(samples: u32) -> u32
+    requires { ⌜ samples < 2 ^ 31 ⌝ }
+    ensures { λ r. ⌜ r ≡ samples / 4 ⌝ }
+{
+    Pel::new(samples).scu().0
+}
+
+// ---- flags
+
+#[repr(C)]
+pub struct EvcAvail {
+    pub code: u32,
+    pub avail: u16,
+}
+
+// A unit outside the picture: intra and not coded, so that it sets no flag.
+const OUTSIDE: u32 = 1 << 15;
+
+// The word of the unit in a column and a row, counted from 1.
+fn scu_word(b: EvcBlock, map_scu: &[u32], column: u32, row: u32) -> MCU
+    requires { ⌜ Covers b (length (now «map_scu»)) ⌝ }
+    ensures { λ r. ⌜ r .0 ≡ cond (hasUnit b column row) (unitWord b (now («map_scu» .entry)) column row) 32768 ⌝ }
+{
+    let w_scu = scu(b.pic_w);
+    let h_scu = scu(b.pic_h);
+    if (1 <= column) & (column <= w_scu) & (1 <= row) & (row <= h_scu) {
+        let scup = (row - 1) * w_scu + (column - 1);
+        MCU(map_scu[scup as usize])
+    } else {
+        MCU(OUTSIDE)
+    }
+}
+
+fn is_inter(b: EvcBlock, map_scu: &[u32], column: u32, row: u32) -> bool
+    requires { ⌜ Covers b (length (now «map_scu»)) ⌝ }
+    ensures { λ r. ⌜ r ≡ isInter b (now («map_scu» .entry)) column row ⌝ }
+{
+    scu_word(b, map_scu, column, row).IS_COD_NIF()
+}
+
+fn is_not_intra(b: EvcBlock, map_scu: &[u32], column: u32, row: u32) -> bool
+    requires { ⌜ Covers b (length (now «map_scu»)) ⌝ }
+    ensures { λ r. ⌜ r ≡ isNotIntra b (now («map_scu» .entry)) column row ⌝ }
+{
+    !scu_word(b, map_scu, column, row).GET_IF()
+}
+
+// `bit` where it is set.
+fn flag(set: bool, bit: u16) -> u16
+    ensures { λ r. ⌜ (r ≡ cond set bit 0) × (r ≤ bit) ⌝ }
+{
+    if set { bit } else { 0 }
+}
+
+fn avail_left(b: EvcBlock, map_scu: &[u32]) -> u16
+    requires { ⌜ Covers b (length (now «map_scu»)) ⌝ }
+    requires { ⌜ Allowed (b .«pic_w») (b .x) (b .w) × Allowed (b .«pic_h») (b .y) (b .h) ⌝ }
+    ensures { λ r. ⌜ (r ≡ availLeft b (now («map_scu» .entry))) × (r ≤ 130) ⌝ }
+{
+    let left = scu(b.x);
+    let row = scu(b.y) + 1;
+    let below = row + scu(b.h);
+    let le = is_inter(b, map_scu, left, row);
+    let lo_le = is_inter(b, map_scu, left, below);
+    flag(le, AVAIL_LE) + flag(le & lo_le, AVAIL_LO_LE)
+}
+
+fn avail_right(b: EvcBlock, map_scu: &[u32]) -> u16
+    requires { ⌜ Covers b (length (now «map_scu»)) ⌝ }
+    requires { ⌜ Allowed (b .«pic_w») (b .x) (b .w) × Allowed (b .«pic_h») (b .y) (b .h) ⌝ }
+    ensures { λ r. ⌜ (r ≡ availRight b (now («map_scu» .entry))) × (r ≤ 264) ⌝ }
+{
+    let right = scu(b.x) + 1 + scu(b.w);
+    let row = scu(b.y) + 1;
+    let below = row + scu(b.h);
+    let ri = is_inter(b, map_scu, right, row);
+    let lo_ri = is_inter(b, map_scu, right, below);
+    flag(ri, AVAIL_RI) + flag(ri & lo_ri, AVAIL_LO_RI)
+}
+
+fn avail_up(b: EvcBlock, map_scu: &[u32]) -> u16
+    requires { ⌜ Covers b (length (now «map_scu»)) ⌝ }
+    requires { ⌜ Allowed (b .«pic_w») (b .x) (b .w) × Allowed (b .«pic_h») (b .y) (b .h) ⌝ }
+    ensures { λ r. ⌜ (r ≡ availUp b (now («map_scu» .entry))) × (r ≤ 609) ⌝ }
+{
+    let left = scu(b.x);
+    let scuw = scu(b.w);
+    let above = scu(b.y);
+    let up = is_not_intra(b, map_scu, left + 1, above);
+    let ri_up = is_not_intra(b, map_scu, left + scuw, above);
+    let up_le = is_inter(b, map_scu, left, above);
+    let up_ri = is_inter(b, map_scu, left + 1 + scuw, above);
+    flag(up, AVAIL_UP) + flag(ri_up, AVAIL_RI_UP) + flag(up_le, AVAIL_UP_LE) + flag(up_ri, AVAIL_UP_RI)
+}
+
+fn avail_inter(b: EvcBlock, map_scu: &[u32]) -> u16
+    requires { ⌜ Covers b (length (now «map_scu»)) ⌝ }
+    requires { ⌜ Allowed (b .«pic_w») (b .x) (b .w) × Allowed (b .«pic_h») (b .y) (b .h) ⌝ }
+    ensures { λ r. ⌜ r ≡ availInter b (now («map_scu» .entry)) ⌝ }
+{
+    avail_left(b, map_scu) + avail_up(b, map_scu) + avail_right(b, map_scu)
+}
+
+fn unit_count(b: EvcBlock) -> usize
+    requires { ⌜ (b .«pic_w» ≤ 8128) × (b .«pic_h» ≤ 8128) ⌝ }
+    ensures { λ r. ⌜ r ≡ unitCount b ⌝ }
+{
+    (scu(b.pic_w) * scu(b.pic_h)) as usize
+}
+
+fn avail_code(b: EvcBlock, words: usize) -> u32
+    ensures { λ r. ⌜ r ≡ firstOf (availChecks b words) ⌝ }
+{
+    let code = evc_def::block_code(b);
+    if code != 0 {
+        return code;
+    }
+    if words < unit_count(b) {
+        return 4;
+    }
+    0
+}
+
+pub fn evc_get_avail_inter(block: EvcBlock, map_scu: &[u32]) -> EvcAvail
+    ensures { λ r. ⌜ r ≡ getAvailInter block (now («map_scu» .entry)) ⌝ }
+{
+    let code = avail_code(block, map_scu.len());
+    if code != 0 {
+        return EvcAvail { code, avail: 0 };
+    }
+    EvcAvail {
+        code: 0,
+        avail: avail_inter(block, map_scu),
+    }
+}
+
+// ---- motion maps
+
+// Numbers of a unit in a motion map: list 0 x, y, list 1 x, y.
+const MAP_MV_LEN: usize = 4;
+
+// A component of the vector of a unit and a list: the one place where a motion map is read.
+fn map_mv_at(map_mv: &[i16], scup: usize, lidx: usize, d: usize) -> i16
+    requires { ⌜ (lidx ≤ 1) × (d ≤ 1) × (mvLen * scup + mvLen ≤ length (now «map_mv»)) ⌝ }
+    ensures { λ r. ⌜ r ≡ getD (now («map_mv» .entry)) (mvLen * scup + 2 * lidx + d) (pos 0) ⌝ }
+{
+    map_mv[MAP_MV_LEN * scup + 2 * lidx + d]
+}
+
+fn mv_at(map_mv: &[i16], scup: usize, lidx: usize) -> EvcMv
+    requires { ⌜ (lidx ≤ 1) × (mvLen * scup + mvLen ≤ length (now «map_mv»)) ⌝ }
+    ensures { λ r. ⌜ r ≡ mvAt (now («map_mv» .entry)) scup lidx ⌝ }
+{
+    EvcMv {
+        x: map_mv_at(map_mv, scup, lidx, 0),
+        y: map_mv_at(map_mv, scup, lidx, 1),
+    }
+}
+
+// The collocated vector, list 0 at the block's first unit; `other` without a map.
+fn collocated_mv(has_col: bool, col_mv: &[i16], scup: usize, other: EvcMv) -> EvcMv
+    requires { ⌜ («has_col» ≡ true → mvLen * scup + mvLen ≤ length (now «col_mv»)) ⌝ }
+    ensures { λ r. ⌜ r ≡ cond «has_col» (mvAt (now («col_mv» .entry)) scup 0) other ⌝ }
+{
+    if has_col { mv_at(col_mv, scup, 0) } else { other }
+}
+
+// The index of the block's first unit in the maps.
+fn block_scup(b: EvcBlock) -> usize
+    requires { ⌜ Allowed (b .«pic_w») (b .x) (b .w) × Allowed (b .«pic_h») (b .y) (b .h) ⌝ }
+    ensures { λ r. ⌜ (r ≡ scup b) × (r < unitCount b) ⌝ }
+{
+    (scu(b.y) * scu(b.pic_w) + scu(b.x)) as usize
+}
+
+// A map of this length is too short for the picture.
+fn map_short(b: EvcBlock, len: usize) -> bool
+    requires { ⌜ (b .«pic_w» ≤ 8128) × (b .«pic_h» ≤ 8128) ⌝ }
+    ensures { λ r. ⌜ r ≡ ltb len (mvLen * unitCount b) ⌝ }
+{
+    len < MAP_MV_LEN * unit_count(b)
+}
+
+// ---- candidates
+
+#[repr(C)]
+pub struct EvcCandidates {
+    pub left: EvcMv,
+    pub up: EvcMv,
+    pub up_right: EvcMv,
+    pub collocated: EvcMv,
+    pub refi: [i8; 4],
+}
+
+pub struct Motion {
+    pub code: u32,
+    pub cand: EvcCandidates,
+}
+
+pub struct Pocs {
+    pub poc: u32,
+    pub poc0: u32,
+    pub poc1: u32,
+    pub list_poc0: u32,
+}
+
+#[repr(C)]
+pub struct EvcDirect {
+    pub code: u32,
+    pub mv0: EvcMv,
+    pub mv1: EvcMv,
+}
