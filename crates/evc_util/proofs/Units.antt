@@ -8,6 +8,9 @@ use borrow.Author.Tests.{lt-ltb, le-ltb}
 use lib.Dec.{T, leb, ltb, leb→le}
 use mir.Facts.{and-yes}
 use Rattle.evc_int.proofs.Lists.{row-fits}
+use Rattle.evc_def.specs.Blocks.{Allowed}
+use Rattle.evc_def.specs.declared.EvcBlock.{EvcBlock}
+use Rattle.evc_util.specs.Units.{wScu, hScu, xScu, yScu, scup, unitCount}
 
 pub record Inside (w h column row : ℕ) : Type 0 where
   pub left : 1 ≤ column
@@ -41,3 +44,10 @@ shorter len n count e h = rw (sym e) (lt-ltb len n h)
 
 pub not-shorter : (len n count : ℕ) → n ≡ count → n ≤ len → ltb len count ≡ false
 not-shorter len n count e h = rw (sym e) (le-ltb len n h)
+
+-- the block's first unit lies in the picture
+pub scup-below : (b : EvcBlock) → Allowed (b .«pic_w») (b .x) (b .w) → Allowed (b .«pic_h») (b .y) (b .h) → scup b < unitCount b
+scup-below b p q =
+    let l : yScu b < hScu b = omega arith in
+    let k : xScu b < wScu b = omega arith in
+    omega (arith, row-fits (wScu b) l, mul-comm (wScu b) (hScu b))

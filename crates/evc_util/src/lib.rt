@@ -1,13 +1,17 @@
 ghost use mathlib.Core.Path.{_≡_};
-ghost use mathlib.Core.Bool.{cond, true};
+ghost use mathlib.Core.Bool.{cond, true, false};
 ghost use lib.Dec.{ltb};
-ghost use Prim.Native.Nat.{ℕ, _+_, _*_, _/_, _<_, _≤_, _^_};
+ghost use Prim.Native.Nat.{ℕ, _+_, _-_, _*_, _/_, _<_, _≤_, _^_};
 ghost use lib.ListN.{length, getD};
 ghost use lib.IntN.{pos};
 ghost use Rattle.evc_def.specs.Blocks.{Allowed};
 ghost use Rattle.evc_def.specs.Codes.{firstOf};
 ghost use Rattle.evc_util.specs.Units.{unitCount, scup, hasUnit, Covers, mvLen, mvAt};
+ghost use Rattle.evc_util.specs.Candidates.{neighbour, flagOutside, mapsShort, motionChecks, candidates, getMotion};
 ghost use Rattle.evc_util.specs.Flags.{unitWord, isInter, isNotIntra, flag, availLeft, availRight, availUp, availInter, availChecks, getAvailInter};
+use evc_def::AVAIL_BIT_LE;
+use evc_def::AVAIL_BIT_UP;
+use evc_def::AVAIL_BIT_UP_RI;
 use evc_def::AVAIL_LE;
 use evc_def::AVAIL_LO_LE;
 use evc_def::AVAIL_LO_RI;
@@ -18,6 +22,7 @@ use evc_def::AVAIL_UP_LE;
 use evc_def::AVAIL_UP_RI;
 use evc_def::EvcBlock;
 use evc_def::EvcMv;
+use evc_def::GET_AVAIL_FLAG;
 use evc_def::MCU;
 use evc_def::Pel;
 use evc_def::Scu;
@@ -130,7 +135,7 @@ fn avail_inter(b: EvcBlock, map_scu: &[u32]) -> u16
 
 fn unit_count(b: EvcBlock) -> usize
     requires { ⌜ (b .«pic_w» ≤ 8128) × (b .«pic_h» ≤ 8128) ⌝ }
-    ensures { λ r. ⌜ r ≡ unitCount b ⌝ }
+    ensures { λ r. ⌜ (r ≡ unitCount b) × (r ≤ 4129024) ⌝ }
 {
     (scu(b.pic_w) * scu(b.pic_h)) as usize
 }
@@ -210,6 +215,7 @@ fn map_short(b: EvcBlock, len: usize) -> bool
 
 // ---- candidates
 
+// The record of the four candidates and their reference numbers.
 #[repr(C)]
 pub struct EvcCandidates {
     pub left: EvcMv,
@@ -222,6 +228,78 @@ pub struct EvcCandidates {
 pub struct Motion {
     pub code: u32,
     pub cand: EvcCandidates,
+}
+
+// The vector of the unit `back` before the block's first one, where its flag is set.
+fn neighbour_mv(map_mv: &[i16], lidx: usize, flagged: bool, scup: usize, back: usize) -> EvcMv
+    requires { ⌜ (lidx ≤ 1) × (mvLen * scup + mvLen ≤ length (now «map_mv»)) × (flagged ≡ true → back ≤ scup) ⌝ }
+    ensures { λ r. ⌜ r ≡ neighbour (now («map_mv» .entry)) lidx flagged (scup - back) ⌝ }
+{
+    if flagged {
+        mv_at(map_mv, scup - back, lidx)
+    } else {
+        EvcMv { x: 1, y: 1 }
+    }
+}
+
+fn flag_outside(b: EvcBlock, avail: u16) -> bool
+    requires { ⌜ Allowed (b .«pic_w») (b .x) (b .w) ⌝ }
+    ensures { λ r. ⌜ r ≡ flagOutside b avail ⌝ }
+{
+    (GET_AVAIL_FLAG(avail, AVAIL_BIT_LE) & (b.x == 0))
+        | (GET_AVAIL_FLAG(avail, AVAIL_BIT_UP) & (b.y == 0))
+        | (GET_AVAIL_FLAG(avail, AVAIL_BIT_UP_RI) & ((b.y == 0) | (b.x + b.w == b.pic_w)))
+}
+
+fn maps_short(b: EvcBlock, map_mv: usize, has_col: bool, col_mv: usize) -> bool
+    requires { ⌜ (b .«pic_w» ≤ 8128) × (b .«pic_h» ≤ 8128) ⌝ }
+    ensures { λ r. ⌜ r ≡ mapsShort b «map_mv» «has_col» «col_mv» ⌝ }
+{
+    map_short(b, map_mv) | (has_col & map_short(b, col_mv))
+}
+
+fn motion_code(b: EvcBlock, lidx: u32, avail: u16, map_mv: usize, has_col: bool, col_mv: usize) -> u32
+    ensures { λ r. ⌜ r ≡ firstOf (motionChecks b lidx avail «map_mv» «has_col» «col_mv») ⌝ }
+{
+    let code = evc_def::block_code(b);
+    if code != 0 {
+        return code;
+    }
+    if 1 < lidx {
+        return 3;
+    }
+    if maps_short(b, map_mv, has_col, col_mv) {
+        return 4;
+    }
+    if flag_outside(b, avail) {
+        return 7;
+    }
+    0
+}
+
+fn candidates(
+    b: EvcBlock,
+    lidx: usize,
+    avail: u16,
+    map_mv: &[i16],
+    has_col: bool,
+    col_mv: &[i16],
+    old: EvcCandidates,
+) -> EvcCandidates
+    requires { ⌜ Allowed (b .«pic_w») (b .x) (b .w) × Allowed (b .«pic_h») (b .y) (b .h) ⌝ }
+    requires { ⌜ (lidx ≤ 1) × (mapsShort b (length (now «map_mv»)) «has_col» (length (now «col_mv»)) ≡ false) × (flagOutside b avail ≡ false) ⌝ }
+    ensures { λ r. ⌜ r ≡ candidates b lidx avail (now («map_mv» .entry)) «has_col» (now («col_mv» .entry)) old ⌝ }
+{
+    let scup = block_scup(b);
+    let w_scu = scu(b.pic_w) as usize;
+    let scuw = scu(b.w) as usize;
+    EvcCandidates {
+        left: neighbour_mv(map_mv, lidx, GET_AVAIL_FLAG(avail, AVAIL_BIT_LE), scup, 1),
+        up: neighbour_mv(map_mv, lidx, GET_AVAIL_FLAG(avail, AVAIL_BIT_UP), scup, w_scu),
+        up_right: neighbour_mv(map_mv, lidx, GET_AVAIL_FLAG(avail, AVAIL_BIT_UP_RI), scup, w_scu - scuw),
+        collocated: collocated_mv(has_col, col_mv, scup, old.collocated),
+        refi: [0; 4],
+    }
 }
 
 pub struct Pocs {

@@ -21,11 +21,11 @@ unit-count-requires c κs = let k = allowed-block _ (accepted c) in (k .0 .size-
 
 returns-2 : tie.Need-returns-2
 returns-2 c =
-    sym (goes-on 0 (blockChecks _) _ tt (accepted (c .before .before)) ∙ refused _ _ _ (shorter _ _ _ (c .before .unit-count .ensures) (c .if2 .taken)))
+    sym (goes-on 0 (blockChecks _) _ tt (accepted (c .before .before)) ∙ refused _ _ _ (shorter _ _ _ (c .before .unit-count .ensures .0) (c .if2 .taken)))
 
 returns-3 : tie.Need-returns-3
 returns-3 c =
-    sym (goes-on 0 (blockChecks _) _ tt (accepted (c .before .before)) ∙ passed _ _ _ (not-shorter _ _ _ (c .before .unit-count .ensures) (c .if2 .left)) ∙ none)
+    sym (goes-on 0 (blockChecks _) _ tt (accepted (c .before .before)) ∙ passed _ _ _ (not-shorter _ _ _ (c .before .unit-count .ensures .0) (c .if2 .left)) ∙ none)
 
 pub avail-code-spec : {M : Type 1} → statement M
 avail-code-spec =

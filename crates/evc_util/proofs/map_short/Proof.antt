@@ -1,21 +1,17 @@
+-- `evc_util::map_short` meets its contract. Assumes nothing.
+use mathlib.Core.Path.{_≡_, ap}
+use Prim.Native.Nat.{ℕ, _*_}
+use native.Mathlib.Omega.{arith}
 use borrow.Author.Needs.{needs}
+use lib.Dec.{ltb}
 use Rattle.evc_util.proofs.map_short.Statement.{statement}
 use Rattle.evc_util.proofs.map_short.Tie as tie
-use Rattle.evc_util.proofs.map_short.Reads as reads
-use Rattle.evc_util.proofs.map_short.Lts as lts
-use Rattle.evc_util.proofs.unit_count.Reads as unit-count-reads
 
--- src/lib.rt:208:24
-unit-count-requires : tie.Need-unit-count-requires
-unit-count-requires c κs = search needs
-
--- src/lib.rt:208:11
 mul-result : tie.Need-mul-result
-mul-result c = ?
+mul-result c = record { fits = omega (arith, c .unit-count .ensures .1) }
 
--- src/lib.rt:204:1
 returns : tie.Need-returns
-returns c = ?
+returns c = ap (λ (n : ℕ). ltb (c .before .args .len) (4 * n)) (c .unit-count .ensures .0)
 
 pub map-short-spec : {M : Type 1} → statement M
-map-short-spec = tie.close (tie.spec unit-count-requires mul-result returns)
+map-short-spec = tie.close (tie.spec (λ c κs. search needs) mul-result returns)

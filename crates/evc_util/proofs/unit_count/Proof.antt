@@ -17,7 +17,7 @@ cast-result : tie.Need-cast-result
 cast-result c = record { fits = let s = small c in omega arith }
 
 returns : tie.Need-returns
-returns c = ap₂ _*_ (c .before .scu .ensures) (c .scu2 .ensures)
+returns c = (ap₂ _*_ (c .before .scu .ensures) (c .scu2 .ensures), small c)
 
 pub unit-count-spec : {M : Type 1} → statement M
 unit-count-spec =
