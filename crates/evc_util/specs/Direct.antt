@@ -32,26 +32,26 @@ directChecks b p «has_col» «col_mv» =
 abbrev pub dpocCo : Pocs → ℤ
 dpocCo p = pos (p .poc1) -ℤ pos (p .«list_poc0»)
 
--- the exact quotient of "(count - count 0) × v / co, .. -(count 1 - count) × v / co, truncated toward zero"
-abbrev pub quotient0 : Pocs → ℤ → ℤ
-quotient0 p v = quotZ ((pos (p .poc) -ℤ pos (p .poc0)) *ℤ v) (dpocCo p)
+-- "(count - count 0)" and "-(count 1 - count)"
+abbrev pub dpoc0 : Pocs → ℤ
+dpoc0 p = pos (p .poc) -ℤ pos (p .poc0)
 
-abbrev pub quotient1 : Pocs → ℤ → ℤ
-quotient1 p v = quotZ (negℤ (pos (p .poc1) -ℤ pos (p .poc)) *ℤ v) (dpocCo p)
+abbrev pub dpoc1 : Pocs → ℤ
+dpoc1 p = negℤ (pos (p .poc1) -ℤ pos (p .poc))
 
 -- "collocated vector from list 0, zero without a map"
 abbrev pub collocated : EvcBlock → Bool → List ℤ → EvcMv
 collocated b «has_col» col = cond «has_col» (mvAt col (scup b) 0) zeroMv
 
--- "and only the low sixteen bits are kept, as a signed number"
-abbrev pub scaled : (ℤ → ℤ) → EvcMv → EvcMv
-scaled quotient mv = record { x = low16 (quotient (mv .x)); y = low16 (quotient (mv .y)) }
+-- ".. × v / co, truncated toward zero, and only the low sixteen bits are kept, as a signed number"
+abbrev pub scaledBy : ℤ → ℤ → EvcMv → EvcMv
+scaledBy dpoc co mv = record { x = low16 (quotZ (dpoc *ℤ mv .x) co); y = low16 (quotZ (dpoc *ℤ mv .y) co) }
 
 -- "all four numbers are 0 if co = 0"
 unfoldable pub directVectors : Pocs → EvcMv → EvcDirect
 directVectors p mv =
     cond (eqb (p .poc1) (p .«list_poc0»)) (record { code = 0; mv0 = zeroMv; mv1 = zeroMv })
-    (record { code = 0; mv0 = scaled (quotient0 p) mv; mv1 = scaled (quotient1 p) mv })
+    (record { code = 0; mv0 = scaledBy (dpoc0 p) (dpocCo p) mv; mv1 = scaledBy (dpoc1 p) (dpocCo p) mv })
 
 unfoldable pub getMvDir : EvcBlock → Pocs → Bool → List ℤ → EvcDirect
 getMvDir b p «has_col» col =

@@ -3,11 +3,14 @@ ghost use mathlib.Core.Bool.{cond, true, false};
 ghost use lib.Dec.{ltb};
 ghost use Prim.Native.Nat.{ℕ, _+_, _-_, _*_, _/_, _<_, _≤_, _^_};
 ghost use lib.ListN.{length, getD};
-ghost use lib.IntN.{pos};
+ghost use lib.IntN.{pos, natAbs, _-ℤ_, _*ℤ_};
+ghost use lib.Signed.{quotZ};
+ghost use Rattle.evc_int.specs.LowBits.{low16};
 ghost use Rattle.evc_def.specs.Blocks.{Allowed};
 ghost use Rattle.evc_def.specs.Codes.{firstOf};
 ghost use Rattle.evc_util.specs.Units.{unitCount, scup, hasUnit, Covers, mvLen, mvAt};
 ghost use Rattle.evc_util.specs.Candidates.{neighbour, flagOutside, mapsShort, motionChecks, candidates, getMotion};
+ghost use Rattle.evc_util.specs.Direct.{pocTooLarge, directChecks, scaledBy, directVectors, getMvDir};
 ghost use Rattle.evc_util.specs.Flags.{unitWord, isInter, isNotIntra, flag, availLeft, availRight, availUp, availInter, availChecks, getAvailInter};
 use evc_def::AVAIL_BIT_LE;
 use evc_def::AVAIL_BIT_UP;
@@ -302,6 +305,33 @@ fn candidates(
     }
 }
 
+// The candidates by value: the record comes in, and comes back with the number.
+pub fn get_motion(
+    block: EvcBlock,
+    lidx: u32,
+    avail: u16,
+    map_mv: &[i16],
+    has_col: bool,
+    col_mv: &[i16],
+    old: EvcCandidates,
+) -> Motion
+    ensures { λ r. ⌜ r ≡ getMotion block lidx avail (now («map_mv» .entry)) «has_col» (now («col_mv» .entry)) old ⌝ }
+{
+    let code = motion_code(block, lidx, avail, map_mv.len(), has_col, col_mv.len());
+    if code != 0 {
+        return Motion { code, cand: old };
+    }
+    Motion {
+        code: 0,
+        cand: candidates(block, lidx as usize, avail, map_mv, has_col, col_mv, old),
+    }
+}
+
+// ---- direct vectors
+
+const MAX_POC: u32 = 32767;
+
+// The order counts of the picture and of its two references, and the first count that reference 1 lists.
 pub struct Pocs {
     pub poc: u32,
     pub poc0: u32,
@@ -314,4 +344,87 @@ pub struct EvcDirect {
     pub code: u32,
     pub mv0: EvcMv,
     pub mv1: EvcMv,
+}
+
+fn poc_too_large(p: Pocs) -> bool
+    ensures { λ r. ⌜ r ≡ pocTooLarge p ⌝ }
+{
+    (MAX_POC < p.poc) | (MAX_POC < p.poc0) | (MAX_POC < p.poc1) | (MAX_POC < p.list_poc0)
+}
+
+// A component scaled by the distance of counts: the exact quotient, of which the low sixteen bits stay.
+fn scaled(dpoc: i32, v: i16, dpoc_co: i32) -> i16
+    requires { ⌜ (natAbs dpoc ≤ 32767) × (0 < natAbs «dpoc_co») × (natAbs «dpoc_co» ≤ 32767) ⌝ }
+    ensures { λ r. ⌜ r ≡ low16 (quotZ (dpoc *ℤ v) «dpoc_co») ⌝ }
+{
+    evc_int::low16(dpoc * (v as i32) / dpoc_co)
+}
+
+fn scaled_mv(dpoc: i32, mv: EvcMv, dpoc_co: i32) -> EvcMv
+    requires { ⌜ (natAbs dpoc ≤ 32767) × (0 < natAbs «dpoc_co») × (natAbs «dpoc_co» ≤ 32767) ⌝ }
+    ensures { λ r. ⌜ r ≡ scaledBy dpoc «dpoc_co» mv ⌝ }
+{
+    EvcMv {
+        x: scaled(dpoc, mv.x, dpoc_co),
+        y: scaled(dpoc, mv.y, dpoc_co),
+    }
+}
+
+// A distance of counts.
+fn dpoc(a: u32, b: u32) -> i32
+    requires { ⌜ (a ≤ 32767) × (b ≤ 32767) ⌝ }
+    ensures { λ r. ⌜ r ≡ pos a -ℤ pos b ⌝ }
+{
+    a as i32 - b as i32
+}
+
+fn direct_vectors(p: Pocs, mv: EvcMv) -> EvcDirect
+    requires { ⌜ (p .poc ≤ 32767) × (p .poc0 ≤ 32767) × (p .poc1 ≤ 32767) × (p .«list_poc0» ≤ 32767) ⌝ }
+    ensures { λ r. ⌜ r ≡ directVectors p mv ⌝ }
+{
+    if p.poc1 == p.list_poc0 {
+        return EvcDirect {
+            code: 0,
+            mv0: EvcMv { x: 0, y: 0 },
+            mv1: EvcMv { x: 0, y: 0 },
+        };
+    }
+    let dpoc_co = dpoc(p.poc1, p.list_poc0);
+    EvcDirect {
+        code: 0,
+        mv0: scaled_mv(dpoc(p.poc, p.poc0), mv, dpoc_co),
+        mv1: scaled_mv(dpoc(p.poc, p.poc1), mv, dpoc_co),
+    }
+}
+
+fn direct_code(b: EvcBlock, p: Pocs, has_col: bool, col_mv: usize) -> u32
+    ensures { λ r. ⌜ r ≡ firstOf (directChecks b p «has_col» «col_mv») ⌝ }
+{
+    let code = evc_def::block_code(b);
+    if code != 0 {
+        return code;
+    }
+    if has_col & map_short(b, col_mv) {
+        return 4;
+    }
+    if poc_too_large(p) {
+        return 5;
+    }
+    0
+}
+
+pub fn evc_get_mv_dir(block: EvcBlock, pocs: Pocs, has_col: bool, col_mv: &[i16]) -> EvcDirect
+    ensures { λ r. ⌜ r ≡ getMvDir block pocs «has_col» (now («col_mv» .entry)) ⌝ }
+{
+    let code = direct_code(block, pocs, has_col, col_mv.len());
+    if code != 0 {
+        return EvcDirect {
+            code,
+            mv0: EvcMv { x: 0, y: 0 },
+            mv1: EvcMv { x: 0, y: 0 },
+        };
+    }
+    let scup = block_scup(block);
+    let mv = collocated_mv(has_col, col_mv, scup, EvcMv { x: 0, y: 0 });
+    direct_vectors(pocs, mv)
 }
