@@ -32,21 +32,35 @@ pub const PIC_PAD_SIZE_C: usize = PIC_PAD_SIZE_L >> 1;
 
 // Neighbouring block availability flag bits, and flags.
 pub const AVAIL_BIT_UP: u16 = 0;
+
 pub const AVAIL_BIT_LE: u16 = 1;
+
 pub const AVAIL_BIT_RI: u16 = 3;
+
 pub const AVAIL_BIT_UP_LE: u16 = 5;
+
 pub const AVAIL_BIT_UP_RI: u16 = 6;
+
 pub const AVAIL_BIT_LO_LE: u16 = 7;
+
 pub const AVAIL_BIT_LO_RI: u16 = 8;
+
 pub const AVAIL_BIT_RI_UP: u16 = 9;
 
 pub const AVAIL_UP: u16 = 1 << AVAIL_BIT_UP;
+
 pub const AVAIL_LE: u16 = 1 << AVAIL_BIT_LE;
+
 pub const AVAIL_RI: u16 = 1 << AVAIL_BIT_RI;
+
 pub const AVAIL_UP_LE: u16 = 1 << AVAIL_BIT_UP_LE;
+
 pub const AVAIL_UP_RI: u16 = 1 << AVAIL_BIT_UP_RI;
+
 pub const AVAIL_LO_LE: u16 = 1 << AVAIL_BIT_LO_LE;
+
 pub const AVAIL_LO_RI: u16 = 1 << AVAIL_BIT_LO_RI;
+
 pub const AVAIL_RI_UP: u16 = 1 << AVAIL_BIT_RI_UP;
 
 // Whether bit `bit` of the flags is set.

@@ -52,3 +52,7 @@ low16-unique z y q f e =
     let g = low16-fits z in
     same (of y) (of (low16 z))
     (omega (arith, rng f, rng g, fact (! z) (! y ⊕ ! (pos 65536) ⊗ ! q) e, fact (! z) (! (low16 z) ⊕ ! (pos 65536) ⊗ ! (d .0)) (d .1)))
+
+-- a number of sixteen bits is its own low bits
+pub low16-same : (z : ℤ) → SFits w16 z → low16 z ≡ z
+low16-same z f = sym (low16-unique z z (pos 0) f (solve (! z) (! z ⊕ ! (pos 65536) ⊗ ! (pos 0)) (omega arith)))

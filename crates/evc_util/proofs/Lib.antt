@@ -1,3 +1,4 @@
 pub mod Units
 pub mod Flags
 pub mod Reach
+pub mod Laws

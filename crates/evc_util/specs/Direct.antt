@@ -62,9 +62,9 @@ getMvDir b p «has_col» col =
 abbrev pub DirectEdges : Type 0
 DirectEdges =
     (directVectors (record { poc = 4; poc0 = 0; poc1 = 8; «list_poc0» = 0 }) (record { x = pos 7; y = − 7 })
-      ≡ record { code = 0; mv0 = record { x = pos 3; y = − 3 }; mv1 = record { x = − 3; y = pos 3 } })
+    ≡ record { code = 0; mv0 = record { x = pos 3; y = − 3 }; mv1 = record { x = − 3; y = pos 3 } })
     × (directVectors (record { poc = 5; poc0 = 0; poc1 = 6; «list_poc0» = 5 }) (record { x = pos 10000; y = pos 0 })
-      ≡ record { code = 0; mv0 = record { x = − 15536; y = pos 0 }; mv1 = record { x = − 10000; y = pos 0 } })
+    ≡ record { code = 0; mv0 = record { x = − 15536; y = pos 0 }; mv1 = record { x = − 10000; y = pos 0 } })
 
 pub directEdges : DirectEdges
 unfolding directVectors low16

@@ -125,7 +125,10 @@ fn avail_up(b: EvcBlock, map_scu: &[u32]) -> u16
     let ri_up = is_not_intra(b, map_scu, left + scuw, above);
     let up_le = is_inter(b, map_scu, left, above);
     let up_ri = is_inter(b, map_scu, left + 1 + scuw, above);
-    flag(up, AVAIL_UP) + flag(ri_up, AVAIL_RI_UP) + flag(up_le, AVAIL_UP_LE) + flag(up_ri, AVAIL_UP_RI)
+    flag(up, AVAIL_UP)
+        + flag(ri_up, AVAIL_RI_UP)
+        + flag(up_le, AVAIL_UP_LE)
+        + flag(up_ri, AVAIL_UP_RI)
 }
 
 fn avail_inter(b: EvcBlock, map_scu: &[u32]) -> u16
@@ -197,7 +200,11 @@ fn collocated_mv(has_col: bool, col_mv: &[i16], scup: usize, other: EvcMv) -> Ev
     requires { ⌜ («has_col» ≡ true → mvLen * scup + mvLen ≤ length (now «col_mv»)) ⌝ }
     ensures { λ r. ⌜ r ≡ cond «has_col» (mvAt (now («col_mv» .entry)) scup 0) other ⌝ }
 {
-    if has_col { mv_at(col_mv, scup, 0) } else { other }
+    if has_col {
+        mv_at(col_mv, scup, 0)
+    } else {
+        other
+    }
 }
 
 // The index of the block's first unit in the maps.
@@ -261,7 +268,14 @@ fn maps_short(b: EvcBlock, map_mv: usize, has_col: bool, col_mv: usize) -> bool
     map_short(b, map_mv) | (has_col & map_short(b, col_mv))
 }
 
-fn motion_code(b: EvcBlock, lidx: u32, avail: u16, map_mv: usize, has_col: bool, col_mv: usize) -> u32
+fn motion_code(
+    b: EvcBlock,
+    lidx: u32,
+    avail: u16,
+    map_mv: usize,
+    has_col: bool,
+    col_mv: usize,
+) -> u32
     ensures { λ r. ⌜ r ≡ firstOf (motionChecks b lidx avail «map_mv» «has_col» «col_mv») ⌝ }
 {
     let code = evc_def::block_code(b);
@@ -298,8 +312,20 @@ fn candidates(
     let scuw = scu(b.w) as usize;
     EvcCandidates {
         left: neighbour_mv(map_mv, lidx, GET_AVAIL_FLAG(avail, AVAIL_BIT_LE), scup, 1),
-        up: neighbour_mv(map_mv, lidx, GET_AVAIL_FLAG(avail, AVAIL_BIT_UP), scup, w_scu),
-        up_right: neighbour_mv(map_mv, lidx, GET_AVAIL_FLAG(avail, AVAIL_BIT_UP_RI), scup, w_scu - scuw),
+        up: neighbour_mv(
+            map_mv,
+            lidx,
+            GET_AVAIL_FLAG(avail, AVAIL_BIT_UP),
+            scup,
+            w_scu,
+        ),
+        up_right: neighbour_mv(
+            map_mv,
+            lidx,
+            GET_AVAIL_FLAG(avail, AVAIL_BIT_UP_RI),
+            scup,
+            w_scu - scuw,
+        ),
         collocated: collocated_mv(has_col, col_mv, scup, old.collocated),
         refi: [0; 4],
     }

@@ -12,7 +12,7 @@ accepted : (c : tie.Else1) → firstOf (blockChecks (c .before .before .args .b)
 accepted c = sym (c .before .block-code .ensures) ∙ c .if1 .left
 
 returns : tie.Need-returns
-returns c = 
+returns c =
     let e = c .before .block-code .ensures in
     e ∙ sym (stops (blockChecks _) _ (λ z. c .if1 .taken (e ∙ z)))
 

@@ -6,7 +6,7 @@ use Rattle.evc_util.proofs.avail_up.Statement.{statement}
 use Rattle.evc_util.proofs.avail_up.Tie as tie
 
 returns : tie.Need-returns
-returns c = 
+returns c =
     let f3 = c .before in
     let f2 = f3 .before in
     let f1 = f2 .before in
@@ -17,16 +17,15 @@ returns c =
     let y = up .before in
     let w = y .before in
     let x = w .before in
-    let a = x .before .before .args in
-    (
+    let a = x .before .before .args in (
       up-flags (a .b) (a .map-scu .now) _ _ _ 0 (x .scu .ensures) (y .scu3 .ensures) (w .scu2 .ensures) _ _ _ _ _ _ _ _
-      (up .is-not-intra .ensures) (ru .is-not-intra2 .ensures) (ul .is-inter .ensures) (ur .is-inter2 .ensures)
-      (f1 .flag .ensures .0) (f2 .flag2 .ensures .0) (f3 .flag3 .ensures .0) (c .flag4 .ensures .0),
+          (up .is-not-intra .ensures) (ru .is-not-intra2 .ensures) (ul .is-inter .ensures) (ur .is-inter2 .ensures)
+          (f1 .flag .ensures .0) (f2 .flag2 .ensures .0) (f3 .flag3 .ensures .0) (c .flag4 .ensures .0),
       let i = f1 .flag .ensures .1 in
-      let j = f2 .flag2 .ensures .1 in
-      let k = f3 .flag3 .ensures .1 in
-      let l = c .flag4 .ensures .1 in
-      omega arith,
+          let j = f2 .flag2 .ensures .1 in
+          let k = f3 .flag3 .ensures .1 in
+          let l = c .flag4 .ensures .1 in
+          omega arith,
     )
 
 pub avail-up-spec : {M : Type 1} → statement M

@@ -20,7 +20,7 @@ returns : tie.Need-returns
 returns c =
     let b = c .before .before .before in
     let e : c .before .before .scu .result * c .before .scu2 .result + c .scu3 .result ≡ scup (b .args .b) =
-        ap₂ _+_ (ap₂ _*_ (c .before .before .scu .ensures) (c .before .scu2 .ensures)) (c .scu3 .ensures) in
+    ap₂ _+_ (ap₂ _*_ (c .before .before .scu .ensures) (c .before .scu2 .ensures)) (c .scu3 .ensures) in
     (e, rw e (scup-below (b .args .b) (b .pre .0) (b .pre .1)))
 
 pub block-scup-spec : {M : Type 1} → statement M

@@ -46,8 +46,7 @@ neighbour-mv-requires-2 : tie.Need-neighbour-mv-requires-2
 neighbour-mv-requires-2 c κs =
     let w = c .before .before .before .before in
     let k = w .before in
-    let p = k .before .pre in
-    (
+    let p = k .before .pre in (
       p .1 .0,
       reaches k,
       λ t. rw (k .block-scup .ensures .0, w .scu .ensures) (up-before _ _ (p .0 .0) (p .0 .1) (p .1 .2) (sym (c .GET-AVAIL-FLAG2 .ensures) ∙ t)),
@@ -58,12 +57,11 @@ neighbour-mv-requires-3 c κs =
     let s = c .before .before .before .before .before in
     let w = s .before in
     let k = w .before in
-    let p = k .before .pre in
-    (
+    let p = k .before .pre in (
       p .1 .0,
       reaches k,
       λ t. let l = up-right-before _ _ (p .0 .0) (p .0 .1) (p .1 .2) (sym (c .GET-AVAIL-FLAG3 .ensures) ∙ t) in
-      omega (arith, k .block-scup .ensures .0, w .scu .ensures),
+          omega (arith, k .block-scup .ensures .0, w .scu .ensures),
     )
 
 collocated-mv-requires : tie.Need-collocated-mv-requires

@@ -9,7 +9,7 @@ use mir.Syntax.{w32}
 use mir.Val.{toZ, ofZ}
 use Rattle.evc_int.specs.Whole.{_⁺, _⁻}
 use Rattle.evc_int.proofs.Whole.{is--, is-eq, nat, abs-of, abs-le}
-use Rattle.evc_int.proofs.Expressions.{!, _⊖_, neg, solve}
+use Rattle.evc_int.proofs.Expressions.{ !, _⊖_, neg, solve}
 use Rattle.evc_int.proofs.Machine.{res}
 use Rattle.evc_def.specs.declared.EvcMv.{EvcMv}
 use Rattle.evc_util.specs.Direct.{dpocCo, dpoc0, dpoc1, scaledBy, directVectors}
