@@ -180,10 +180,11 @@ fn run_chunk() -> bool {
 
 // A proved loop has to end, and nothing says that the input does: the chunks are counted down from a number that no run uses up.
 pub fn run() {
+    if !io::write_all(STDOUT_FILENO, b"answer mvx mvy\n") {
+        return;
+    }
     let mut chunks = u64::MAX;
-    let mut go_on = io::write_all(STDOUT_FILENO, b"answer mvx mvy\n");
-    while go_on && chunks > 0 {
+    while chunks > 0 && run_chunk() {
         chunks -= 1;
-        go_on = run_chunk();
     }
 }

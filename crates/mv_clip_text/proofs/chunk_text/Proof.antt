@@ -1,63 +1,69 @@
+-- `mv_clip_text::chunk_text` meets its contract. The loop's invariant: the lines of the records passed are written, each of at most 20 bytes.
+-- Assumes nothing.
+use mathlib.Core.List.{List, [], _++_, append-nil}
+use mathlib.Core.Path.{_≡_, refl, sym, ap, subst, _∙_}
+use borrow.Author.Needs.{needs}
+use borrow.Author.Tests.{eq-eqb, ne-eqb}
+use Prim.Native.Nat.{ℕ, _+_, _-_, _*_, _/_, _%_, _≤_}
+use native.Mathlib.Numerals.{add-one}
+use native.Mathlib.Omega.{arith}
+use lib.ListN.{length}
+use Rattle.evc_clip.specs.declared.EvcClipped.{EvcClipped}
+use Rattle.mv_clip_text.specs.Records.{answerAt, line, lines, incomplete, text}
+use Rattle.mv_clip_text.specs.Wrote.{Wrote}
+use Rattle.mv_clip_text.proofs.Wrote.{wrote-nothing, wrote-both}
 use Rattle.mv_clip_text.proofs.chunk_text.Statement.{statement}
 use Rattle.mv_clip_text.proofs.chunk_text.Tie as tie
-use Rattle.mv_clip_text.proofs.chunk_text.Reads as reads
-use Rattle.mv_clip_text.proofs.chunk_text.Lts as lts
-use Rattle.mv_clip_text.proofs.answer_at.Reads as answer-at-reads
-use Rattle.mv_clip_text.proofs.put_line.Reads as put-line-reads
 
 abbrev Inv-loop : tie.InvT-loop
-Inv-loop records out₀ n at₀ k₀ out at k = ?
+Inv-loop records out₀ n at₀ k₀ out at k = (k ≤ n) × (at ≤ 20 * k) × Wrote out₀ out 0 at (lines records k)
 
 abbrev μ-loop : tie.MeasureT-loop
-μ-loop records out₀ n at₀ k₀ out at k = ?
+μ-loop records out₀ n at₀ k₀ out at k = n - k
 
--- src/lib.rt:138:5
+module _ (s a b : List ℕ) (at : ℕ) where
+  -- a turn of the loop
+  one-more : (c : List ℕ) (k end : ℕ) (r : EvcClipped) → Wrote a b 0 at (lines s k) → r ≡ answerAt s (16 * k) → Wrote b c at end (line r) → Wrote a c 0 end (lines s (k + 1))
+  unfolding lines
+  one-more c k end r p e q = rw (add-one k) (wrote-both p (subst (λ (x : EvcClipped). Wrote b c at end (line x)) e q))
+
+  module _ (k : ℕ) (p : Wrote a b 0 at (lines s k)) (e : k ≡ length s / 16) where
+    -- the end, with no incomplete record and with one
+    whole : length s % 16 ≡ 0 → Wrote a b 0 at (text s)
+    unfolding text
+    whole z = rw (eq-eqb (length s % 16) 0 z, append-nil, ← e) p
+
+    with-last : (c : List ℕ) (end : ℕ) → (length s % 16 ≡ 0 → ⊥) → Wrote b c at end (line incomplete) → Wrote a c 0 end (text s)
+    unfolding text
+    with-last c end n q = rw (ne-eqb (length s % 16) 0 n, ← e) (wrote-both p q)
+
 loop-holds : tie.Need-loop-holds Inv-loop μ-loop
-loop-holds c = ?
+unfolding lines
+loop-holds c = (omega arith, omega arith, wrote-nothing _ 0)
 
--- src/lib.rt:139:51
-mul-answer-at : tie.Need-mul-answer-at Inv-loop μ-loop
-mul-answer-at c = ?
-
--- src/lib.rt:139:32
-answer-at-requires : tie.Need-answer-at-requires Inv-loop μ-loop
-answer-at-requires c κs = ?
-
--- src/lib.rt:139:9
-put-line-requires : tie.Need-put-line-requires Inv-loop μ-loop
-put-line-requires c κs = ?
-
--- src/lib.rt:138:9
-add-k : tie.Need-add-k Inv-loop μ-loop
-add-k c = ?
-
--- src/lib.rt:138:5
-loop-less : tie.Need-loop-less Inv-loop μ-loop
-loop-less c = ?
-
--- src/lib.rt:138:5
 loop-again : tie.Need-loop-again Inv-loop μ-loop
-loop-again c = ?
+loop-again c =
+    let p = c .before .before in
+    let a = p .before in
+    let i = a .before .before .before .loop .inv in
+    (omega arith, omega arith, one-more _ _ _ _ _ _ _ _ (i .2) (a .answer-at .ensures) (p .put-line .ensures .0))
 
--- src/lib.rt:142:9
 same-length : tie.Need-same-length Inv-loop μ-loop
-same-length c = ?
+same-length c = c .before .before .loop .inv .2 .long
 
--- src/lib.rt:142:9
 returns : tie.Need-returns Inv-loop μ-loop
-returns c = ?
+returns c = whole _ _ _ _ _ (c .before .before .loop .inv .2) (omega arith) (c .if1 .taken)
 
--- src/lib.rt:148:5
-put-line-requires-2 : tie.Need-put-line-requires-2 Inv-loop μ-loop
-put-line-requires-2 c κs = ?
-
--- src/lib.rt:132:1
 same-length-2 : tie.Need-same-length-2 Inv-loop μ-loop
-same-length-2 c = ?
+same-length-2 c =
+    let p = c .before .before in
+    p .put-line2 .ensures .0 .long ∙ p .before .before .before .before .loop .inv .2 .long
 
--- src/lib.rt:132:1
 returns-2 : tie.Need-returns-2 Inv-loop μ-loop
-returns-2 c = ?
+returns-2 c =
+    let p = c .before .before in
+    let e = p .before .before in
+    with-last _ _ _ _ _ (e .before .before .loop .inv .2) (omega arith) _ _ (e .if1 .left) (p .put-line2 .ensures .0)
 
 pub chunk-text-spec : {M : Type 1} → statement M
 chunk-text-spec =
@@ -66,14 +72,14 @@ chunk-text-spec =
     Inv-loop
     μ-loop
     loop-holds
-    mul-answer-at
-    answer-at-requires
-    put-line-requires
-    add-k
-    loop-less
+    (λ c. omega arith)
+    (λ c κs. omega arith)
+    (λ c κs. omega arith)
+    (λ c. omega arith)
+    (λ c. omega arith)
     loop-again
     same-length
     returns
-    put-line-requires-2
+    (λ c κs. omega arith)
     same-length-2
     returns-2)

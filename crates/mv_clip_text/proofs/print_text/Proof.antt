@@ -1,42 +1,19 @@
+-- `mv_clip_text::print_text` is safe: the text ends within the buffer. Assumes nothing.
+use mathlib.Core.Path.{sym}
 use borrow.Author.Needs.{needs}
+use native.Mathlib.Omega.{arith}
+use lib.Seq.{length-take-le}
+use Rattle.mv_clip_text.proofs.Wrote.{wrote-within}
 use Rattle.mv_clip_text.proofs.print_text.Statement.{statement}
 use Rattle.mv_clip_text.proofs.print_text.Tie as tie
-use Rattle.mv_clip_text.proofs.print_text.Reads as reads
-use Rattle.mv_clip_text.proofs.print_text.Lts as lts
-use Rattle.io.proofs.write_all.Reads as write-all-reads
-use Rattle.mv_clip_text.proofs.chunk_text.Reads as chunk-text-reads
 
--- src/lib.rt:157:35
-slice-aggregate-chunk-text : tie.Need-slice-aggregate-chunk-text
-slice-aggregate-chunk-text c = search needs
+within : tie.Need-array-share-prefix-out
+within c = wrote-within (c .before .chunk-text .ensures) (omega arith)
 
--- src/lib.rt:157:9
-chunk-text-requires : tie.Need-chunk-text-requires
-chunk-text-requires c κs = search needs
-
--- src/lib.rt:158:34
-array-share-prefix-out : tie.Need-array-share-prefix-out
-array-share-prefix-out c = ?
-
--- src/lib.rt:158:34
-slice-aggregate-write-all : tie.Need-slice-aggregate-write-all
-slice-aggregate-write-all c = ?
-
--- src/lib.rt:158:5
-write-all-requires : tie.Need-write-all-requires
-write-all-requires c κs = search needs
-
--- src/lib.rt:153:1
-returns : tie.Need-returns
-returns c = search needs
+prefix-long : tie.Need-slice-aggregate-write-all
+prefix-long c = sym (length-take-le _ _ (within (c .before)))
 
 pub print-text-spec : {M : Type 1} → statement M
 print-text-spec =
     tie.close
-    (tie.spec
-    slice-aggregate-chunk-text
-    chunk-text-requires
-    array-share-prefix-out
-    slice-aggregate-write-all
-    write-all-requires
-    returns)
+    (tie.spec (λ c. search needs) (λ c κs. search needs) within prefix-long (λ c κs. search needs) (λ c. search needs))
