@@ -16,7 +16,9 @@ use libc::STDOUT_FILENO;
 const RECORD_LEN: usize = 16;
 // The longest line: five digits for a number, a sign for each component, two spaces and the line's end.
 const MAX_LINE_LEN: usize = 20;
+
 const CHUNK_RECORDS: usize = 3072;
+
 const CHUNK_LEN: usize = CHUNK_RECORDS * RECORD_LEN;
 // A line for each record of a chunk, and one for an incomplete last record.
 const MAX_TEXT_LEN: usize = (CHUNK_RECORDS + 1) * MAX_LINE_LEN;

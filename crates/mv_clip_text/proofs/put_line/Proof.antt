@@ -1,13 +1,22 @@
 -- `mv_clip_text::put_line` meets its contract. Assumes nothing.
+use mathlib.Core.List.{List}
 use borrow.Author.Needs.{needs}
+use Prim.Native.Nat.{ℕ}
 use native.Mathlib.Omega.{arith}
+use lib.IntN.{ℤ}
 use mir.Syntax.{w16}
-use mir.Val.{SFits}
+use mir.Val.{SFits, toZ, ofZ}
 use mir.Facts.{toZ-ofZ}
+use Rattle.mv_clip_text.specs.Decimal.{signedDecimal}
 use Rattle.mv_clip_text.specs.Records.{line}
+use Rattle.mv_clip_text.specs.Wrote.{Wrote}
 use Rattle.mv_clip_text.proofs.Wrote.{wrote-both}
 use Rattle.mv_clip_text.proofs.put_line.Statement.{statement}
 use Rattle.mv_clip_text.proofs.put_line.Tie as tie
+
+-- a component as its line's definition names it
+of-value : {a b : List ℕ} {at end : ℕ} {z : ℤ} → SFits w16 z → Wrote a b at end (signedDecimal (toZ w16 (ofZ w16 z))) → Wrote a b at end (signedDecimal z)
+of-value f p = simp (toZ-ofZ f) at p
 
 abbrev start : tie.After-struct-told → tie.Start
 start c = c .before .before .before .before .before .before .before .before .before .before .before .before
@@ -27,8 +36,10 @@ returns c =
     let x = space .before .before .before .before in
     let first = x .before .before .before .before .before in
     let code = first .before .before .before .before in
-    let w = wrote-both (wrote-both (code .put-decimal .ensures .0) (first .put .ensures)) (simp (toZ-ofZ (x-fits (x .before))) at (x .put-signed .ensures .0)) in
-    (wrote-both (wrote-both (wrote-both w (space .put2 .ensures)) (simp (toZ-ofZ (y-fits (y .before))) at (y .put-signed2 .ensures .0))) (end .put3 .ensures), omega (arith, first .put .ensures .ends, space .put2 .ensures .ends, end .put3 .ensures .ends))
+    let w₁ = wrote-both (code .put-decimal .ensures .0) (first .put .ensures) in
+    let w₂ = wrote-both w₁ (of-value (x-fits (x .before)) (x .put-signed .ensures .0)) in
+    let w₃ = wrote-both (wrote-both w₂ (space .put2 .ensures)) (of-value (y-fits (y .before)) (y .put-signed2 .ensures .0)) in
+    (wrote-both w₃ (end .put3 .ensures), omega (arith, first .put .ensures .ends, space .put2 .ensures .ends, end .put3 .ensures .ends))
 
 pub put-line-spec : {M : Type 1} → statement M
 put-line-spec =
