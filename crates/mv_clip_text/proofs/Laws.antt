@@ -1,22 +1,21 @@
 -- Laws of the text: chunks of whole records add up, and a negative size or place is refused. Assumes nothing.
 use mathlib.Core.Bool.{true, false, and-false}
-use mathlib.Core.List.{List, [], _++_, append-nil, append-assoc}
+use mathlib.Core.List.{List, _++_, append-nil, append-assoc}
 use mathlib.Core.Logic.{_⊎_, ⊎-elim}
-use mathlib.Core.Path.{_≡_, refl, sym, ap, ap₂, _∙_}
+use mathlib.Core.Path.{_≡_, refl, ap, ap₂, _∙_}
 use borrow.Author.Tests.{eq-eqb, lt-leb}
 use Prim.Native.Nat.{ℕ, zero, suc, _+_, _*_, _/_, _%_, _<_, _≤_}
 use native.Mathlib.Nat.{add-zero, add-suc}
 use native.Mathlib.Omega.{arith}
 use lib.Dec.{lit<}
 use lib.IntN.{pos}
-use lib.ListN.{length, getD, length-append, List·getD-append}
+use lib.ListN.{length, length-append, List·getD-append}
 use lib.Seq.{getD-append-add}
 use Rattle.evc_def.specs.Blocks.{Allowed, isPictureSide, badPicture}
 use Rattle.evc_def.proofs.Blocks.{allowed-block}
 use Rattle.evc_def.proofs.Codes.{refused}
-use Rattle.evc_clip.specs.declared.EvcClipped.{EvcClipped}
 use Rattle.evc_clip.specs.Clip.{mvClip}
-use Rattle.mv_clip_text.specs.Records.{field, answerAt, line, lines, incomplete, text}
+use Rattle.mv_clip_text.specs.Records.{field, answerAt, line, lines, text}
 
 -- ---- chunks
 

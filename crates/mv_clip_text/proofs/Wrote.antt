@@ -1,6 +1,6 @@
--- Laws of `Wrote`: nothing written, one byte, and one text behind another. Assumes nothing.
+-- Laws of `Wrote`: nothing written, one byte, one text behind another, and where a text ends. Assumes nothing.
 use mathlib.Core.List.{List, [], _∷_, _++_, append-nil, append-assoc}
-use mathlib.Core.Path.{_≡_, refl, sym, ap, _∙_}
+use mathlib.Core.Path.{refl, sym, ap, _∙_}
 use Prim.Native.Nat.{ℕ, _+_, _≤_, _<_}
 use native.Mathlib.Numerals.{add-one}
 use native.Mathlib.Omega.{arith}

@@ -3,11 +3,9 @@ use mathlib.Core.Bool.{cond}
 use mathlib.Core.List.{List, [], _∷_, _++_}
 use Prim.Native.Nat.{ℕ, zero, suc, _+_, _*_, _/_, _%_}
 use lib.Dec.{eqb}
-use lib.IntN.{ℤ, pos}
+use lib.IntN.{pos}
 use lib.ListN.{length, getD}
 use Rattle.evc_int.specs.LowBits.{signed16}
-use Rattle.evc_def.specs.declared.EvcBlock.{EvcBlock}
-use Rattle.evc_def.specs.declared.EvcMv.{EvcMv}
 use Rattle.evc_clip.specs.declared.EvcClipped.{EvcClipped}
 use Rattle.evc_clip.specs.Clip.{mvClip}
 use Rattle.mv_clip_text.specs.Decimal.{decimal, signedDecimal}

@@ -151,13 +151,21 @@ fn chunk_text(records: &[u8], out: &mut [u8]) -> usize
 
 // ---- the program
 
-// Answers whether the whole text was written.
+// Answers whether all of it was written.
+fn print(text: &[u8]) -> bool {
+    let is_written = io::write_all(STDOUT_FILENO, text);
+    if !is_written {
+        io::write_all(STDERR_FILENO, b"cannot write standard output\n");
+    }
+    is_written
+}
+
 fn print_text(records: &[u8]) -> bool
     requires { ⌜ length (now records) ≤ 49152 ⌝ }
 {
     let mut out = [0u8; MAX_TEXT_LEN];
     let end = chunk_text(records, &mut out);
-    io::write_all(STDOUT_FILENO, &out[..end])
+    print(&out[..end])
 }
 
 // The input ended where a further read gives no byte: a short count of `read_full` does not say so.
@@ -182,7 +190,7 @@ fn run_chunk() -> bool {
 
 // A proved loop has to end, and nothing says that the input does: the chunks are counted down from a number that no run uses up.
 pub fn run() {
-    if !io::write_all(STDOUT_FILENO, b"answer mvx mvy\n") {
+    if !print(b"answer mvx mvy\n") {
         return;
     }
     let mut chunks = u64::MAX;

@@ -1,8 +1,7 @@
 -- `mv_clip_text::chunk_text` meets its contract. The loop's invariant: the lines of the records passed are written, each of at most 20 bytes.
 -- Assumes nothing.
-use mathlib.Core.List.{List, [], _++_, append-nil}
-use mathlib.Core.Path.{_≡_, refl, sym, ap, subst, _∙_}
-use borrow.Author.Needs.{needs}
+use mathlib.Core.List.{List, append-nil}
+use mathlib.Core.Path.{_≡_, subst, _∙_}
 use borrow.Author.Tests.{eq-eqb, ne-eqb}
 use Prim.Native.Nat.{ℕ, _+_, _-_, _*_, _/_, _%_, _≤_}
 use native.Mathlib.Numerals.{add-one}

@@ -10,7 +10,7 @@ use Rattle.mv_clip_text.proofs.print_text.Tie as tie
 within : tie.Need-array-share-prefix-out
 within c = wrote-within (c .before .chunk-text .ensures) (omega arith)
 
-prefix-long : tie.Need-slice-aggregate-write-all
+prefix-long : tie.Need-slice-aggregate-print
 prefix-long c = sym (length-take-le _ _ (within (c .before)))
 
 pub print-text-spec : {M : Type 1} → statement M

@@ -1,8 +1,8 @@
 -- `mv_clip_text::put_signed` meets its contract. Assumes nothing.
 use mathlib.Core.List.{List, [], _∷_, _++_}
-use mathlib.Core.Path.{_≡_, refl, sym, ap, subst}
+use mathlib.Core.Path.{_≡_, subst}
 use borrow.Author.Needs.{needs}
-use Prim.Native.Nat.{ℕ, suc, _+_, _≤_, _<_}
+use Prim.Native.Nat.{ℕ, _+_, _≤_, _<_}
 use native.Mathlib.Omega.{arith}
 use lib.IntN.{ℤ, pos, negsuc, natAbs}
 use Rattle.evc_int.specs.Whole.{_⁺, _⁻}
@@ -25,16 +25,15 @@ natural (pos m) n h e = rw e
 natural (negsuc m) n h e = absurd (omega arith)
 
 -- the two branches, where y is what was cast to unsigned
-module _ (a b c : List ℕ) (at mid end : ℕ) (y z : ℤ) where
-  with-sign : z ⁺ < z ⁻ → Is y (0 + z ⁻) (0 + z ⁺) → Wrote a b at mid (45 ∷ []) → Wrote b c mid end (decimal (natAbs y)) → Wrote a c at end (signedDecimal z)
-  with-sign h i p q =
-      let e : z ⁻ ≡ natAbs y = omega (arith, abs-of y, parts i, parts (of z)) in
-      subst (Wrote a c at end) (negative z (natAbs y) h e) (wrote-both p q)
+with-sign : (a b c : List ℕ) (at mid end : ℕ) (y z : ℤ) → z ⁺ < z ⁻ → Is y (0 + z ⁻) (0 + z ⁺) → Wrote a b at mid (45 ∷ []) → Wrote b c mid end (decimal (natAbs y)) → Wrote a c at end (signedDecimal z)
+with-sign a b c at mid end y z h i p q =
+    let e : z ⁻ ≡ natAbs y = omega (arith, abs-of y, parts i, parts (of z)) in
+    subst (Wrote a c at end) (negative z (natAbs y) h e) (wrote-both p q)
 
-  without-sign : z ⁻ ≤ z ⁺ → Is y (z ⁺) (z ⁻) → Wrote a b at end (decimal (natAbs y)) → Wrote a b at end (signedDecimal z)
-  without-sign h i p =
-      let e : z ⁺ ≡ natAbs y = omega (arith, abs-of y, parts i, parts (of z)) in
-      subst (Wrote a b at end) (natural z (natAbs y) h e) p
+without-sign : (a b : List ℕ) (at end : ℕ) (y z : ℤ) → z ⁻ ≤ z ⁺ → Is y (z ⁺) (z ⁻) → Wrote a b at end (decimal (natAbs y)) → Wrote a b at end (signedDecimal z)
+without-sign a b at end y z h i p =
+    let e : z ⁺ ≡ natAbs y = omega (arith, abs-of y, parts i, parts (of z)) in
+    subst (Wrote a b at end) (natural z (natAbs y) h e) p
 
 abbrev start : tie.After-put-decimal-arg → tie.Start
 start c = c .before .before .before .before .before .before .before
@@ -55,7 +54,10 @@ returns : tie.Need-returns
 returns c =
     let p = c .before .before in
     let d = p .before in
-    (with-sign _ _ _ _ _ _ _ _ (below d) (is-rd (negated d) (is-- (nat 0) (is-rd (widened d) (arg (start d .fits .v))))) (d .before .before .before .put .ensures) (p .put-decimal .ensures .0), omega (arith, d .before .before .before .put .ensures .ends))
+    let s = d .before .before .before in (
+      with-sign _ _ _ _ _ _ _ _ (below d) (is-rd (negated d) (is-- (nat 0) (is-rd (widened d) (arg (start d .fits .v))))) (s .put .ensures) (p .put-decimal .ensures .0),
+      omega (arith, s .put .ensures .ends),
+    )
 
 not-below : (c : tie.After-put-decimal-arg2) → c .before .before .before .args .v ⁻ ≤ c .before .before .before .args .v ⁺
 not-below c = let h = lt-no (arg (c .before .before .before .fits .v)) (nat 0) (c .before .if1 .left) in omega arith
@@ -67,7 +69,7 @@ returns-2 : tie.Need-returns-2
 returns-2 c =
     let p = c .before .before in
     let d = p .before in
-    (without-sign _ _ [] _ 0 _ _ _ (not-below d) (arg (d .before .before .before .fits .v)) (p .put-decimal2 .ensures .0), omega arith)
+    (without-sign _ _ _ _ _ _ (not-below d) (arg (d .before .before .before .fits .v)) (p .put-decimal2 .ensures .0), omega arith)
 
 pub put-signed-spec : {M : Type 1} → statement M
 put-signed-spec =
