@@ -16,4 +16,4 @@ prefix-long c = sym (length-take-le _ _ (within (c .before)))
 pub print-text-spec : {M : Type 1} → statement M
 print-text-spec =
     tie.close
-    (tie.spec (λ c. search needs) (λ c κs. search needs) within prefix-long (λ c κs. search needs) (λ c. search needs))
+    (tie.spec (λ c. search needs) (λ c κs. omega arith) within prefix-long (λ c κs. search needs) (λ c. search needs))
