@@ -1,0 +1,3 @@
+fn main() {
+    mv_clip_text::run();
+}
