@@ -1,0 +1,49 @@
+//! The calls of include/evc_inter.h, each over the function that does its work.
+ghost use mathlib.Core.Path.{_≡_};
+ghost use Rattle.evc_clip.specs.Clip.{mvClip};
+ghost use Rattle.evc_util.specs.Flags.{getAvailInter};
+ghost use Rattle.evc_util.specs.Direct.{getMvDir};
+use evc_clip::EvcClipped;
+use evc_def::EvcBlock;
+use evc_def::EvcMv;
+use evc_util::EvcAvail;
+use evc_util::EvcDirect;
+use evc_util::Pocs;
+
+// Neighbour flags.
+#[no_mangle]
+pub extern "C" fn evc_get_avail_inter(block: EvcBlock, map_scu: &[u32]) -> EvcAvail
+    ensures { λ r. ⌜ r ≡ getAvailInter block (now («map_scu» .entry)) ⌝ }
+{
+    evc_util::evc_get_avail_inter(block, map_scu)
+}
+
+// Direct vectors.
+#[no_mangle]
+pub extern "C" fn evc_get_mv_dir(
+    block: EvcBlock,
+    poc: u32,
+    poc0: u32,
+    poc1: u32,
+    list_poc0: u32,
+    has_col: bool,
+    col_mv: &[i16],
+) -> EvcDirect
+    ensures { λ r. ⌜ r ≡ getMvDir block (record { poc = poc; poc0 = poc0; poc1 = poc1; «list_poc0» = «list_poc0» }) «has_col» (now («col_mv» .entry)) ⌝ }
+{
+    let pocs = Pocs {
+        poc,
+        poc0,
+        poc1,
+        list_poc0,
+    };
+    evc_util::evc_get_mv_dir(block, pocs, has_col, col_mv)
+}
+
+// Clipping of one vector.
+#[no_mangle]
+pub extern "C" fn evc_mv_clip(block: EvcBlock, mv: EvcMv) -> EvcClipped
+    ensures { λ r. ⌜ r ≡ mvClip block mv ⌝ }
+{
+    evc_clip::mv_clip(block, mv)
+}
