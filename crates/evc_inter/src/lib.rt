@@ -3,10 +3,12 @@ ghost use mathlib.Core.Path.{_≡_};
 ghost use Rattle.evc_clip.specs.Clip.{mvClip};
 ghost use Rattle.evc_util.specs.Flags.{getAvailInter};
 ghost use Rattle.evc_util.specs.Direct.{getMvDir};
+ghost use Rattle.evc_util.specs.Candidates.{getMotion};
 use evc_clip::EvcClipped;
 use evc_def::EvcBlock;
 use evc_def::EvcMv;
 use evc_util::EvcAvail;
+use evc_util::EvcCandidates;
 use evc_util::EvcDirect;
 use evc_util::Pocs;
 
@@ -46,4 +48,23 @@ pub extern "C" fn evc_mv_clip(block: EvcBlock, mv: EvcMv) -> EvcClipped
     ensures { λ r. ⌜ r ≡ mvClip block mv ⌝ }
 {
     evc_clip::mv_clip(block, mv)
+}
+
+// The four candidates of a list, into the record lent.
+#[no_mangle]
+pub extern "C" fn evc_get_motion(
+    block: EvcBlock,
+    lidx: u32,
+    avail: u16,
+    map_mv: &[i16],
+    has_col: bool,
+    col_mv: &[i16],
+    cand: &mut EvcCandidates,
+) -> u32
+    ensures code { λ r. ⌜ r ≡ (getMotion block lidx avail (now («map_mv» .entry)) «has_col» (now («col_mv» .entry)) (now (cand .entry))) .code ⌝ }
+    ensures record { λ _. ⌜ now (cand .exit) ≡ (getMotion block lidx avail (now («map_mv» .entry)) «has_col» (now («col_mv» .entry)) (now (cand .entry))) .cand ⌝ }
+{
+    let r = evc_util::get_motion(block, lidx, avail, map_mv, has_col, col_mv, *cand);
+    *cand = r.cand;
+    r.code
 }
