@@ -1,0 +1,70 @@
+//! The calls of include/evc_inter.h, each over the function that does its work.
+ghost use mathlib.Core.Path.{_≡_};
+ghost use Rattle.evc_clip.specs.Clip.{mvClip};
+ghost use Rattle.evc_util.specs.Flags.{getAvailInter};
+ghost use Rattle.evc_util.specs.Direct.{getMvDir};
+ghost use Rattle.evc_util.specs.Candidates.{getMotion};
+use evc_clip::EvcClipped;
+use evc_def::EvcBlock;
+use evc_def::EvcMv;
+use evc_util::EvcAvail;
+use evc_util::EvcCandidates;
+use evc_util::EvcDirect;
+use evc_util::Pocs;
+
+// Neighbour flags.
+#[no_mangle]
+pub extern "C" fn evc_get_avail_inter(block: EvcBlock, map_scu: &[u32]) -> EvcAvail
+    ensures { λ r. ⌜ r ≡ getAvailInter block (now («map_scu» .entry)) ⌝ }
+{
+    evc_util::evc_get_avail_inter(block, map_scu)
+}
+
+// Direct vectors.
+#[no_mangle]
+pub extern "C" fn evc_get_mv_dir(
+    block: EvcBlock,
+    poc: u32,
+    poc0: u32,
+    poc1: u32,
+    list_poc0: u32,
+    has_col: bool,
+    col_mv: &[i16],
+) -> EvcDirect
+    ensures { λ r. ⌜ r ≡ getMvDir block (record { poc = poc; poc0 = poc0; poc1 = poc1; «list_poc0» = «list_poc0» }) «has_col» (now («col_mv» .entry)) ⌝ }
+{
+    let pocs = Pocs {
+        poc,
+        poc0,
+        poc1,
+        list_poc0,
+    };
+    evc_util::evc_get_mv_dir(block, pocs, has_col, col_mv)
+}
+
+// Clipping of one vector.
+#[no_mangle]
+pub extern "C" fn evc_mv_clip(block: EvcBlock, mv: EvcMv) -> EvcClipped
+    ensures { λ r. ⌜ r ≡ mvClip block mv ⌝ }
+{
+    evc_clip::mv_clip(block, mv)
+}
+
+// The four candidates of a list, into the record lent.
+#[no_mangle]
+pub extern "C" fn evc_get_motion(
+    block: EvcBlock,
+    lidx: u32,
+    avail: u16,
+    map_mv: &[i16],
+    has_col: bool,
+    col_mv: &[i16],
+    cand: &mut EvcCandidates,
+) -> u32
+    ensures code { λ r. ⌜ r ≡ (getMotion block lidx avail (now («map_mv» .entry)) «has_col» (now («col_mv» .entry)) (now (cand .entry))) .code ⌝ }
+    ensures record { λ _. ⌜ now (cand .exit) ≡ (getMotion block lidx avail (now («map_mv» .entry)) «has_col» (now («col_mv» .entry)) (now (cand .entry))) .cand ⌝ }
+{
+    let r = evc_util::get_motion(block, lidx, avail, map_mv, has_col, col_mv, *cand);
+    *cand = r.cand;
+    r.code
+}
