@@ -1,0 +1,4 @@
+pub mod Rows
+pub mod Samples
+pub mod Sizes
+pub mod Padding

@@ -1,0 +1,98 @@
+-- The four steps of padding, left, right, up and down, give at each place of the buffer the picture's sample at the column and row held to the
+-- picture. Over any numbers: p rows above and below, o columns to the left, a picture of w by h, rows of S. Assumes nothing.
+use Prim.Native.Nat.{ℕ, zero, suc, _+_, _-_, _*_, _/_, _%_, _<_, _≤_, min}
+use mathlib.Core.Bool.{Bool, true, false}
+use mathlib.Core.Path.{_≡_, refl, sym, ap, ap₂, _∙_}
+use mathlib.Core.List.{List}
+use mathlib.Core.Logic.{_⊎_, inl, inr}
+use native.Mathlib.Omega.{arith}
+use native.Mathlib.Nat.{mul-le-mul-right, div-add-mod', mod-lt, div-lt-iff-lt-mul, le-refl}
+use lib.Dec.{ltb}
+use lib.ListN.{length, getD}
+use lib.Seq.{ext-getD}
+use borrow.Author.Tests.{ltb-true, ltb-false}
+use Rattle.evc_int.specs.Lists.{withBlock}
+use Rattle.evc_int.proofs.Lists.{row-fits, length-withBlock, withBlock-in, withBlock-past}
+use Rattle.evc_plane.proofs.Rows.{withBlock-before, withBlock-beside}
+
+-- ---- the steps, as the code takes them
+
+abbrev pub filledLeft : ℕ → ℕ → ℕ → ℕ → ℕ → List ℕ → List ℕ
+filledLeft p o w h S l = withBlock l (p * S + 0) S o h (λ (y _ : ℕ). getD l (p * S + y * S + o) 0)
+
+abbrev pub filledRight : ℕ → ℕ → ℕ → ℕ → ℕ → List ℕ → List ℕ
+filledRight p o w h S l = withBlock l (p * S + (o + w)) S (S - (o + w)) h (λ (y _ : ℕ). getD l (p * S + y * S + (o + w - 1)) 0)
+
+abbrev pub copiedUp : ℕ → ℕ → ℕ → ℕ → ℕ → List ℕ → List ℕ
+copiedUp p o w h S l = withBlock l 0 S S p (λ (_ x : ℕ). getD l (p * S + x) 0)
+
+abbrev pub copiedDown : ℕ → ℕ → ℕ → ℕ → ℕ → List ℕ → List ℕ
+copiedDown p o w h S l = withBlock l (p * S + h * S) S S p (λ (_ x : ℕ). getD l (p * S + h * S - S + x) 0)
+
+-- what stands at row y and column x after them
+abbrev pub held : ℕ → ℕ → ℕ → ℕ → ℕ → List ℕ → ℕ → ℕ → ℕ
+held p o w h S l y x = getD l ((p + min (y - p) (h - 1)) * S + (o + min (x - o) (w - 1))) 0
+
+module _ (p o w h S : ℕ) (s : List ℕ) (pads : 1 ≤ p) (wide : 1 ≤ w) (high : 1 ≤ h) (across : o + w ≤ S) (within : (p + h + p) * S ≤ length s) where
+  abbrev l₁ : List ℕ
+  l₁ = filledLeft p o w h S s
+
+  abbrev l₂ : List ℕ
+  l₂ = filledRight p o w h S l₁
+
+  abbrev l₃ : List ℕ
+  l₃ = copiedUp p o w h S l₂
+
+  abbrev l₄ : List ℕ
+  l₄ = copiedDown p o w h S l₃
+
+  one-row : S ≤ p * S
+  one-row = let m : 1 * S ≤ p * S = mul-le-mul-right S pads in omega arith
+
+  length₁ : length l₁ ≡ length s
+  length₁ = length-withBlock s (p * S + 0) S o h (λ (y _ : ℕ). getD s (p * S + y * S + o) 0)
+
+  length₂ : length l₂ ≡ length s
+  length₂ = length-withBlock l₁ (p * S + (o + w)) S (S - (o + w)) h (λ (y _ : ℕ). getD l₁ (p * S + y * S + (o + w - 1)) 0) ∙ length₁
+
+  length₃ : length l₃ ≡ length s
+  length₃ = length-withBlock l₂ 0 S S p (λ (_ x : ℕ). getD l₂ (p * S + x) 0) ∙ length₂
+
+  length₄ : length l₄ ≡ length s
+  length₄ = length-withBlock l₃ (p * S + h * S) S S p (λ (_ x : ℕ). getD l₃ (p * S + h * S - S + x) 0) ∙ length₃
+
+  -- a row of the picture, from the first stored column to the last
+  module _ (y x : ℕ) (ly : y < h) (lx : x < S) where
+    beside₁ : (z : ℕ) → o ≤ z → z < S → getD l₁ (p * S + y * S + z) 0 ≡ getD s (p * S + y * S + z) 0
+    beside₁ z a b = withBlock-beside 0 s (p * S) S 0 o h (λ (y _ : ℕ). getD s (p * S + y * S + o) 0) y z b (omega arith) (inr (omega arith))
+
+    beside₂ : (z : ℕ) → z < o + w → getD l₂ (p * S + y * S + z) 0 ≡ getD l₁ (p * S + y * S + z) 0
+    beside₂ z a =
+        withBlock-beside 0 l₁ (p * S) S (o + w) (S - (o + w)) h (λ (y _ : ℕ). getD l₁ (p * S + y * S + (o + w - 1)) 0) y z (omega arith) (omega arith) (inl a)
+
+    at : ℕ → List ℕ → ℕ
+    at i l = getD l i 0
+
+    picture-row : getD l₂ (p * S + y * S + x) 0 ≡ getD s (p * S + y * S + (o + min (x - o) (w - 1))) 0
+    picture-row = by-column (ltb x o) (ltb x (o + w)) refl refl
+      where
+        by-column : (a b : Bool) → ltb x o ≡ a → ltb x (o + w) ≡ b → getD l₂ (p * S + y * S + x) 0 ≡ getD s (p * S + y * S + (o + min (x - o) (w - 1))) 0
+        by-column true b e f =
+            let lt = ltb-true x o e in
+            let i : p * S + y * S + x ≡ p * S + 0 + y * S + x = omega arith in
+            let j : o ≡ o + min (x - o) (w - 1) = omega arith in
+            beside₂ x (omega arith) ∙ ap (λ (i : ℕ). getD l₁ i 0) i
+            ∙ withBlock-in 0 s (p * S + 0) S o h (λ (y _ : ℕ). getD s (p * S + y * S + o) 0) y x ly lt (omega arith) (omega arith)
+            ∙ ap (λ (z : ℕ). getD s (p * S + y * S + z) 0) j
+        by-column false true e f =
+            let ge = ltb-false x o e in
+            let lt = ltb-true x (o + w) f in
+            let j : x ≡ o + min (x - o) (w - 1) = omega arith in
+            beside₂ x lt ∙ beside₁ x ge lx ∙ ap (λ (z : ℕ). getD s (p * S + y * S + z) 0) j
+        by-column false false e f =
+            let ge = ltb-false x (o + w) f in
+            let i : p * S + y * S + x ≡ p * S + (o + w) + y * S + (x - (o + w)) = omega arith in
+            let j : o + w - 1 ≡ o + min (x - o) (w - 1) = omega arith in
+            ap (λ (i : ℕ). getD l₂ i 0) i
+            ∙ withBlock-in 0 l₁ (p * S + (o + w)) S (S - (o + w)) h (λ (y _ : ℕ). getD l₁ (p * S + y * S + (o + w - 1)) 0) y (x - (o + w)) ly (omega arith) (omega arith) (let r = one-row in let n = length₁ in omega arith)
+            ∙ beside₁ (o + w - 1) (omega arith) (omega arith) ∙ ap (λ (z : ℕ). getD s (p * S + y * S + z) 0) j
