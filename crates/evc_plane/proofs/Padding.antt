@@ -70,9 +70,6 @@ module _ (p o w h S : ℕ) (s : List ℕ) (pads : 1 ≤ p) (wide : 1 ≤ w) (hig
     beside₂ z a =
         withBlock-beside 0 l₁ (p * S) S (o + w) (S - (o + w)) h (λ (y _ : ℕ). getD l₁ (p * S + y * S + (o + w - 1)) 0) y z (omega arith) (omega arith) (inl a)
 
-    at : ℕ → List ℕ → ℕ
-    at i l = getD l i 0
-
     picture-row : getD l₂ (p * S + y * S + x) 0 ≡ getD s (p * S + y * S + (o + min (x - o) (w - 1))) 0
     picture-row = by-column (ltb x o) (ltb x (o + w)) refl refl
       where
@@ -96,3 +93,88 @@ module _ (p o w h S : ℕ) (s : List ℕ) (pads : 1 ≤ p) (wide : 1 ≤ w) (hig
             ap (λ (i : ℕ). getD l₂ i 0) i
             ∙ withBlock-in 0 l₁ (p * S + (o + w)) S (S - (o + w)) h (λ (y _ : ℕ). getD l₁ (p * S + y * S + (o + w - 1)) 0) y (x - (o + w)) ly (omega arith) (omega arith) (let r = one-row in let n = length₁ in omega arith)
             ∙ beside₁ (o + w - 1) (omega arith) (omega arith) ∙ ap (λ (z : ℕ). getD s (p * S + y * S + z) 0) j
+
+  -- the same with the row's number as the definition has it
+  in-row : (y x : ℕ) → y < h → x < S → getD l₂ (p * S + y * S + x) 0 ≡ held p o w h S s (p + y) x
+  in-row y x ly lx =
+      let e : p * S + y * S ≡ (p + min (p + y - p) (h - 1)) * S =
+      (let a : y ≡ min (p + y - p) (h - 1) = omega arith in ap (λ (z : ℕ). p * S + z * S) a ∙ (let b = min (p + y - p) (h - 1) in let d : p * S + b * S ≡ (p + b) * S = omega arith in d)) in
+      picture-row y x ly lx ∙ ap (λ (i : ℕ). getD s (i + (o + min (x - o) (w - 1))) 0) e
+
+  -- every row
+  padded-at : (y x : ℕ) → y < p + h + p → x < S → getD l₄ (y * S + x) 0 ≡ held p o w h S s y x
+  padded-at y x ly lx = by-row (ltb y p) (ltb y (p + h)) refl refl
+    where
+      down : ℕ → ℕ → ℕ
+      down _ x = getD l₃ (p * S + h * S - S + x) 0
+
+      up : ℕ → ℕ → ℕ
+      up _ x = getD l₂ (p * S + x) 0
+
+      -- a row of which the picture's row is j
+      as-row : (i j : ℕ) → j < h → getD l₂ i 0 ≡ getD l₂ (p * S + j * S + x) 0 → min (y - p) (h - 1) ≡ j → getD l₂ i 0 ≡ held p o w h S s y x
+      as-row i j lj e q =
+          let a : p + min (p + j - p) (h - 1) ≡ p + min (y - p) (h - 1) = omega arith in
+          e ∙ in-row j x lj lx ∙ ap (λ (z : ℕ). getD s (z * S + (o + min (x - o) (w - 1))) 0) a
+
+      by-row : (a b : Bool) → ltb y p ≡ a → ltb y (p + h) ≡ b → getD l₄ (y * S + x) 0 ≡ held p o w h S s y x
+      by-row true b e f =
+          let lt = ltb-true y p e in
+          let r = row-fits S lt in
+          let n = length₂ in
+          let i : 0 + y * S + x ≡ y * S + x = omega arith in
+          let j : p * S + x ≡ p * S + 0 * S + x = omega arith in
+          withBlock-before 0 l₃ (p * S + h * S) S S p down (y * S + x) (omega arith)
+          ∙ ap (λ (i : ℕ). getD l₃ i 0) (sym i)
+          ∙ withBlock-in 0 l₂ 0 S S p up y x lt lx (le-refl S) (omega arith)
+          ∙ as-row (p * S + x) 0 (omega arith) (ap (λ (i : ℕ). getD l₂ i 0) j) (omega arith)
+      by-row false true e f =
+          let ge = ltb-false y p e in
+          let lt = ltb-true y (p + h) f in
+          let r = row-fits S lt in
+          let t = mul-le-mul-right S ge in
+          let j : y * S + x ≡ p * S + (y - p) * S + x = (let a : y ≡ p + (y - p) = omega arith in ap (λ (z : ℕ). z * S + x) a ∙ (let b = y - p in let d : (p + b) * S + x ≡ p * S + b * S + x = omega arith in d)) in
+          withBlock-before 0 l₃ (p * S + h * S) S S p down (y * S + x) (omega arith)
+          ∙ withBlock-past 0 l₂ 0 S S p up (y * S + x) (le-refl S) (omega arith)
+          ∙ as-row (y * S + x) (y - p) (omega arith) (ap (λ (i : ℕ). getD l₂ i 0) j) (omega arith)
+      by-row false false e f =
+          let ge = ltb-false y (p + h) f in
+          let n = length₃ in
+          let m = mul-le-mul-right S high in
+          let i : y * S + x ≡ p * S + h * S + (y - (p + h)) * S + x = (let a : y ≡ p + h + (y - (p + h)) = omega arith in ap (λ (z : ℕ). z * S + x) a ∙ (let b = y - (p + h) in let d : (p + h + b) * S + x ≡ p * S + h * S + b * S + x = omega arith in d)) in
+          let k : h * S - S ≡ (h - 1) * S = (let a : h ≡ 1 + (h - 1) = omega arith in ap (λ (z : ℕ). z * S - S) a ∙ (let b = h - 1 in let d : (1 + b) * S - S ≡ b * S = omega arith in d)) in
+          let j : p * S + h * S - S + x ≡ p * S + (h - 1) * S + x = omega arith in
+          ap (λ (i : ℕ). getD l₄ i 0) i
+          ∙ withBlock-in 0 l₃ (p * S + h * S) S S p down (y - (p + h)) x (omega arith) lx (le-refl S) (omega arith)
+          ∙ withBlock-past 0 l₂ 0 S S p up (p * S + h * S - S + x) (le-refl S) (omega arith)
+          ∙ as-row (p * S + h * S - S + x) (h - 1) (omega arith) (ap (λ (i : ℕ). getD l₂ i 0) j) (omega arith)
+
+  -- past the rows nothing changes
+  padded-past : (i : ℕ) → (p + h + p) * S ≤ i → getD l₄ i 0 ≡ getD s i 0
+  padded-past i b =
+      let r = one-row in
+      withBlock-past 0 l₃ (p * S + h * S) S S p (λ (_ x : ℕ). getD l₃ (p * S + h * S - S + x) 0) i (le-refl S) (omega arith)
+      ∙ withBlock-past 0 l₂ 0 S S p (λ (_ x : ℕ). getD l₂ (p * S + x) 0) i (le-refl S) (omega arith)
+      ∙ withBlock-past 0 l₁ (p * S + (o + w)) S (S - (o + w)) h (λ (y _ : ℕ). getD l₁ (p * S + y * S + (o + w - 1)) 0) i (omega arith) (omega arith)
+      ∙ withBlock-past 0 s (p * S + 0) S o h (λ (y _ : ℕ). getD s (p * S + y * S + o) 0) i (omega arith) (omega arith)
+
+  pub steps-pad : l₄ ≡ withBlock s 0 S S (p + h + p) (held p o w h S s)
+  steps-pad = ext-getD 0 l₄ all (length₄ ∙ sym (length-withBlock s 0 S S (p + h + p) (held p o w h S s))) (λ i _. by-place i (ltb i ((p + h + p) * S)) refl)
+    where
+      all : List ℕ
+      all = withBlock s 0 S S (p + h + p) (held p o w h S s)
+
+      by-place : (i : ℕ) (a : Bool) → ltb i ((p + h + p) * S) ≡ a → getD l₄ i 0 ≡ getD all i 0
+      by-place i true e =
+          let lt = ltb-true i ((p + h + p) * S) e in
+          let pos : 0 < S = omega arith in
+          let split = div-add-mod' i S in
+          let ly : i / S < p + h + p = div-lt-iff-lt-mul pos .1 lt in
+          let lx = mod-lt i pos in
+          let z : 0 + i / S * S + i % S ≡ i / S * S + i % S = omega arith in
+          ap (λ (j : ℕ). getD l₄ j 0) (sym split) ∙ padded-at (i / S) (i % S) ly lx
+          ∙ sym (withBlock-in 0 s 0 S S (p + h + p) (held p o w h S s) (i / S) (i % S) ly lx (le-refl S) (omega arith))
+          ∙ ap (λ (j : ℕ). getD all j 0) (z ∙ split)
+      by-place i false e =
+          let ge = ltb-false i ((p + h + p) * S) e in
+          padded-past i ge ∙ sym (withBlock-past 0 s 0 S S (p + h + p) (held p o w h S s) i (le-refl S) (omega arith))

@@ -1,16 +1,16 @@
 -- The sizes of a plane whose picture is accepted, as inequalities: what fits, and that nothing wraps. Assumes nothing.
 use mathlib.Core.Bool.{Bool, true, false, not, _&&_}
-use mathlib.Core.Path.{_≡_, sym, subst}
+use mathlib.Core.Path.{_≡_, sym, ap, subst, _∙_}
 use Prim.Native.Nat.{ℕ, _+_, _*_, _%_, _≤_}
 use native.Mathlib.Omega.{arith}
-use native.Mathlib.Nat.{mul-le-mul}
+use native.Mathlib.Nat.{mul-le-mul, mul-le-mul-right}
 use lib.Dec.{T, leb, eqb, leb→le, eqb→eq}
 use mir.Facts.{and-yes}
 use Rattle.evc_def.specs.Blocks.{isPictureSide, badPicture}
 use Rattle.evc_plane.specs.declared.PlaneType.{PlaneType}
 use Rattle.evc_plane.specs.declared.PlaneType.the-variants.{Y, UV}
 use Rattle.evc_plane.specs.declared.PlaneConfig.{PlaneConfig}
-use Rattle.evc_plane.specs.Planes.{originOf, strideOf, rowsOf, configOf}
+use Rattle.evc_plane.specs.Planes.{originOf, strideOf, rowsOf, planeLen, configOf}
 
 -- ---- an accepted picture
 
@@ -70,3 +70,29 @@ sizes k W H e = let b = sides W H e in sizes′ k W H (b .0) (b .1) (mul-le-mul 
 -- of what `plane_config` gave
 pub sizes-of : (k : PlaneType) (W H : ℕ) (c : PlaneConfig) → c ≡ configOf k W H → badPicture W H ≡ false → Sizes c
 sizes-of k W H c e b = subst Sizes (sym e) (sizes k W H b)
+
+-- ---- products, which omega takes as they are
+
+pub record Rows (c : PlaneConfig) : Type 0 where
+  pub len : c .stride * c .«alloc_height» ≡ c .yorigin * c .stride + c .height * c .stride + c .yorigin * c .stride
+  pub pad-row : c .stride ≤ c .yorigin * c .stride
+  pub picture-row : c .stride ≤ c .height * c .stride
+
+pub rows : (c : PlaneConfig) → Sizes c → Rows c
+rows c z =
+    record {
+      len = ap (λ (n : ℕ). c .stride * n) (z .down) ∙ by-terms (c .yorigin) (c .height) (c .stride);
+      pad-row = at-least (c .yorigin) (c .stride) (omega arith);
+      picture-row = at-least (c .height) (c .stride) (omega arith);
+    }
+  where
+    by-terms : (p h S : ℕ) → S * (p + h + p) ≡ p * S + h * S + p * S
+    by-terms p h S = omega arith
+
+    at-least : (n S : ℕ) → 1 ≤ n → S ≤ n * S
+    at-least n S h = let m : 1 * S ≤ n * S = mul-le-mul-right S h in omega arith
+
+-- the length that a call needs is the product of what `plane_config` gave
+pub plane-len : (k : PlaneType) (W H : ℕ) (c : PlaneConfig) → c ≡ configOf k W H → c .stride * c .«alloc_height» ≡ planeLen k W H
+unfolding configOf
+plane-len k W H c e = ap (λ (r : PlaneConfig). r .stride * r .«alloc_height») e

@@ -133,7 +133,15 @@ fn copy_row(plane: &mut [u16], from: usize, to: usize, n: usize)
 }
 
 // In each of h rows, the first one at `base`: the n samples from column x on become the one at column `from`.
-fn pad_columns(plane: &mut [u16], base: usize, stride: usize, h: usize, x: usize, n: usize, from: usize)
+fn pad_columns(
+    plane: &mut [u16],
+    base: usize,
+    stride: usize,
+    h: usize,
+    x: usize,
+    n: usize,
+    from: usize,
+)
     requires { ⌜ (base + h * stride ≤ length (now plane)) × (x + n ≤ stride) × (from < stride) ⌝ }
     requires { ⌜ (from < x) ⊎ (x + n ≤ from) ⌝ }
     ensures { λ _. ⌜ now (plane .exit) ≡ withBlock (now (plane .entry)) (base + x) stride n h (λ (y _ : ℕ). getD (now (plane .entry)) (base + y * stride + from) 0) ⌝ }
@@ -168,7 +176,15 @@ fn pad_plane(t: PlaneType, pic_w: u32, pic_h: u32, plane: &mut [u16])
     let first = c.yorigin * stride;
     let bottom = first + c.height * stride;
     pad_columns(plane, first, stride, c.height, 0, c.xorigin, c.xorigin);
-    pad_columns(plane, first, stride, c.height, right, stride - right, right - 1);
+    pad_columns(
+        plane,
+        first,
+        stride,
+        c.height,
+        right,
+        stride - right,
+        right - 1,
+    );
     pad_rows(plane, stride, first, 0, c.yorigin);
     pad_rows(plane, stride, bottom - stride, bottom, c.yorigin);
 }
@@ -183,7 +199,13 @@ fn pad_code(t: PlaneType, pic_w: u32, pic_h: u32, plane: &[u16]) -> u32
     if plane.len() < c.stride * c.alloc_height {
         return 4;
     }
-    if exceeds(plane, c.yorigin * c.stride + c.xorigin, c.stride, c.width, c.height) {
+    if exceeds(
+        plane,
+        c.yorigin * c.stride + c.xorigin,
+        c.stride,
+        c.width,
+        c.height,
+    ) {
         return 6;
     }
     0
