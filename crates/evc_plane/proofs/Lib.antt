@@ -2,3 +2,4 @@ pub mod Rows
 pub mod Samples
 pub mod Sizes
 pub mod Padding
+pub mod Laws

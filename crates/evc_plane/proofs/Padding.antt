@@ -1,19 +1,18 @@
 -- The four steps of padding, left, right, up and down, give at each place of the buffer the picture's sample at the column and row held to the
 -- picture. Over any numbers: p rows above and below, o columns to the left, a picture of w by h, rows of S. Assumes nothing.
-use Prim.Native.Nat.{ℕ, zero, suc, _+_, _-_, _*_, _/_, _%_, _<_, _≤_, min}
+use Prim.Native.Nat.{ℕ, zero, suc, _+_, _-_, _*_, _<_, _≤_, min}
 use mathlib.Core.Bool.{Bool, true, false}
 use mathlib.Core.Path.{_≡_, refl, sym, ap, ap₂, _∙_}
 use mathlib.Core.List.{List}
 use mathlib.Core.Logic.{_⊎_, inl, inr}
 use native.Mathlib.Omega.{arith}
-use native.Mathlib.Nat.{mul-le-mul-right, div-add-mod', mod-lt, div-lt-iff-lt-mul, le-refl}
+use native.Mathlib.Nat.{mul-le-mul-right, le-refl}
 use lib.Dec.{ltb}
 use lib.ListN.{length, getD}
-use lib.Seq.{ext-getD}
 use borrow.Author.Tests.{ltb-true, ltb-false}
 use Rattle.evc_int.specs.Lists.{withBlock}
 use Rattle.evc_int.proofs.Lists.{row-fits, length-withBlock, withBlock-in, withBlock-past}
-use Rattle.evc_plane.proofs.Rows.{withBlock-before, withBlock-beside}
+use Rattle.evc_plane.proofs.Rows.{withBlock-before, withBlock-beside, rows-ext}
 
 -- ---- the steps, as the code takes them
 
@@ -159,22 +158,16 @@ module _ (p o w h S : ℕ) (s : List ℕ) (pads : 1 ≤ p) (wide : 1 ≤ w) (hig
       ∙ withBlock-past 0 s (p * S + 0) S o h (λ (y _ : ℕ). getD s (p * S + y * S + o) 0) i (omega arith) (omega arith)
 
   pub steps-pad : l₄ ≡ withBlock s 0 S S (p + h + p) (held p o w h S s)
-  steps-pad = ext-getD 0 l₄ all (length₄ ∙ sym (length-withBlock s 0 S S (p + h + p) (held p o w h S s))) (λ i _. by-place i (ltb i ((p + h + p) * S)) refl)
+  steps-pad =
+      rows-ext S R l₄ (withBlock s 0 S S R f) (length₄ ∙ sym (length-withBlock s 0 S S R f)) (λ y x ly lx. padded-at y x ly lx ∙ sym (inside y x ly lx)) (λ i b. padded-past i b ∙ sym (withBlock-past 0 s 0 S S R f i (le-refl S) (omega arith)))
     where
-      all : List ℕ
-      all = withBlock s 0 S S (p + h + p) (held p o w h S s)
+      R : ℕ
+      R = p + h + p
 
-      by-place : (i : ℕ) (a : Bool) → ltb i ((p + h + p) * S) ≡ a → getD l₄ i 0 ≡ getD all i 0
-      by-place i true e =
-          let lt = ltb-true i ((p + h + p) * S) e in
-          let pos : 0 < S = omega arith in
-          let split = div-add-mod' i S in
-          let ly : i / S < p + h + p = div-lt-iff-lt-mul pos .1 lt in
-          let lx = mod-lt i pos in
-          let z : 0 + i / S * S + i % S ≡ i / S * S + i % S = omega arith in
-          ap (λ (j : ℕ). getD l₄ j 0) (sym split) ∙ padded-at (i / S) (i % S) ly lx
-          ∙ sym (withBlock-in 0 s 0 S S (p + h + p) (held p o w h S s) (i / S) (i % S) ly lx (le-refl S) (omega arith))
-          ∙ ap (λ (j : ℕ). getD all j 0) (z ∙ split)
-      by-place i false e =
-          let ge = ltb-false i ((p + h + p) * S) e in
-          padded-past i ge ∙ sym (withBlock-past 0 s 0 S S (p + h + p) (held p o w h S s) i (le-refl S) (omega arith))
+      f : ℕ → ℕ → ℕ
+      f = held p o w h S s
+
+      inside : (y x : ℕ) → y < p + h + p → x < S → getD (withBlock s 0 S S R f) (y * S + x) 0 ≡ held p o w h S s y x
+      inside y x ly lx =
+          let z : y * S + x ≡ 0 + y * S + x = omega arith in
+          ap (λ (j : ℕ). getD (withBlock s 0 S S R f) j 0) z ∙ withBlock-in 0 s 0 S S R f y x ly lx (le-refl S) (omega arith)

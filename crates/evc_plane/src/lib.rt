@@ -172,8 +172,9 @@ fn pad_plane(t: PlaneType, pic_w: u32, pic_h: u32, plane: &mut [u16])
 {
     let c = plane_config(t, pic_w, pic_h);
     let stride = c.stride;
+    let pad = c.yorigin;
     let right = c.xorigin + c.width;
-    let first = c.yorigin * stride;
+    let first = pad * stride;
     let bottom = first + c.height * stride;
     pad_columns(plane, first, stride, c.height, 0, c.xorigin, c.xorigin);
     pad_columns(
@@ -185,8 +186,8 @@ fn pad_plane(t: PlaneType, pic_w: u32, pic_h: u32, plane: &mut [u16])
         stride - right,
         right - 1,
     );
-    pad_rows(plane, stride, first, 0, c.yorigin);
-    pad_rows(plane, stride, bottom - stride, bottom, c.yorigin);
+    pad_rows(plane, stride, first, 0, pad);
+    pad_rows(plane, stride, bottom - stride, bottom, pad);
 }
 
 fn pad_code(t: PlaneType, pic_w: u32, pic_h: u32, plane: &[u16]) -> u32

@@ -47,7 +47,7 @@ known c =
 
 -- each step keeps the length
 abbrev first : tie.After-pad-columns-arg2 → tie.After-plane-config
-first c = c .before .before .before .before .before .before .before .before
+first c = c .before .before .before .before .before .before .before
 
 length₁ : (c : tie.After-pad-columns-arg2) → length (c .before .before .before .pad-columns .last .0) ≡ length (start (first c) .args .plane .now)
 length₁ c = c .before .before .before .pad-columns .kept .0
@@ -65,7 +65,7 @@ length₃ : (c : tie.After-pad-rows-arg2) → length (c .before .before .before 
 length₃ c = c .before .before .before .pad-rows .kept .0 ∙ length₂ (third c)
 
 pad-columns-requires : tie.Need-pad-columns-requires
-pad-columns-requires c κs = let z = known (c .before .before .before .before) in ((omega arith, omega arith, omega arith), inr (omega arith))
+pad-columns-requires c κs = let z = known (c .before .before .before) in ((omega arith, omega arith, omega arith), inr (omega arith))
 
 pad-columns-requires-2 : tie.Need-pad-columns-requires-2
 pad-columns-requires-2 c κs =
@@ -97,9 +97,9 @@ pad-plane-spec =
     (tie.spec
     (λ c κs. search needs)
     (λ c. let z = known (c .before) in omega arith)
+    (λ c. let z = known (c .before) in omega arith)
     (λ c. let z = known (c .before .before) in omega arith)
-    (λ c. let z = known (c .before .before .before) in omega arith)
-    (λ c. let z = known (c .before .before .before) in omega arith)
+    (λ c. let z = known (c .before .before) in omega arith)
     pad-columns-requires
     (λ c. let z = known (first c) in omega arith)
     (λ c. let z = known (first c) in omega arith)
