@@ -3,7 +3,7 @@ ghost use mathlib.Core.Bool.{false, _||_};
 ghost use mathlib.Core.Logic.{_⊎_};
 ghost use Prim.Native.Nat.{ℕ, _+_, _*_, _<_, _≤_};
 ghost use lib.Dec.{ltb};
-ghost use lib.ListN.{length, getD};
+ghost use lib.ListN.{length, getD, drop};
 ghost use Rattle.evc_int.specs.Lists.{withRow, withBlock};
 ghost use Rattle.evc_def.specs.Blocks.{badPicture};
 ghost use Rattle.evc_plane.specs.Planes.{padOf, originOf, sideOf, align16, planeLen, configOf};
@@ -222,4 +222,57 @@ pub fn pad(t: PlaneType, pic_w: u32, pic_h: u32, plane: &mut [u16]) -> u32
     }
     pad_plane(t, pic_w, pic_h, plane);
     0
+}
+
+// ---- PlaneSlice: a window that holds the lent samples, its stride and place
+
+pub struct PlaneSlice<'a> {
+    pub plane: &'a [u16],
+    pub stride: usize,
+    pub at: usize,
+}
+
+pub fn over<'a>(plane: &'a [u16], stride: usize, at: usize) -> PlaneSlice<'a>
+    ensures { λ w. ⌜ (w .plane ≡ plane .entry) × ((w .stride ≡ stride) × (w .at ≡ at)) ⌝ }
+{
+    PlaneSlice { plane, stride, at }
+}
+
+// What lies in the plane from a row of the window on.
+fn row_at(s: &[u16], stride: usize, at: usize, row: usize) -> &[u16]
+    requires { ⌜ at + row * stride ≤ length (now s) ⌝ }
+    ensures { λ x. ⌜ now x ≡ drop (at + row * stride) (now (s .entry)) ⌝ }
+{
+    let i = at + row * stride;
+    &s[i..]
+}
+
+pub fn row<'a>(w: PlaneSlice<'a>, row: usize) -> &'a [u16]
+    requires { ⌜ w .at + row * w .stride ≤ length (now (w .plane)) ⌝ }
+    ensures { λ x. ⌜ now x ≡ drop (w .entry .at + row * w .entry .stride) (now (w .entry .plane)) ⌝ }
+{
+    row_at(w.plane, w.stride, w.at, row)
+}
+
+fn sample_at(s: &[u16], stride: usize, at: usize, row: usize, col: usize) -> u16
+    requires { ⌜ at + (row * stride + col) < length (now s) ⌝ }
+    ensures { λ x. ⌜ x ≡ getD (now (s .entry)) (at + (row * stride + col)) 0 ⌝ }
+{
+    let i = at + (row * stride + col);
+    s[i]
+}
+
+pub fn sample<'a>(w: PlaneSlice<'a>, row: usize, col: usize) -> u16
+    requires { ⌜ w .at + (row * w .stride + col) < length (now (w .plane)) ⌝ }
+    ensures { λ x. ⌜ x ≡ getD (now (w .entry .plane)) (w .entry .at + (row * w .entry .stride + col)) 0 ⌝ }
+{
+    sample_at(w.plane, w.stride, w.at, row, col)
+}
+
+// With plain parameters: whoever calls this one needs no walk by hand.
+pub fn sample_of(plane: &[u16], stride: usize, at: usize, row: usize, col: usize) -> u16
+    requires { ⌜ at + (row * stride + col) < length (now plane) ⌝ }
+    ensures { λ x. ⌜ x ≡ getD (now (plane .entry)) (at + (row * stride + col)) 0 ⌝ }
+{
+    sample(over(plane, stride, at), row, col)
 }
