@@ -5,7 +5,7 @@ use mathlib.Core.List.{List}
 use mathlib.Core.Path.{_≡_, refl, sym, ap, ap₂, _∙_}
 use Prim.Native.Nat.{ℕ, _+_, _-_, _*_, _≤_, _<_, min}
 use native.Mathlib.Omega.{arith}
-use native.Mathlib.Nat.{le-refl}
+use native.Mathlib.Nat.{le-refl, mul-le-mul-right}
 use lib.IntN.{ℤ, pos, _+ℤ_}
 use lib.ListN.{length, getD}
 use lib.Signed.{ltZ}
@@ -18,7 +18,7 @@ use Rattle.evc_int.proofs.Lists.{length-withBlock, withBlock-in, withBlock-past
 use Rattle.evc_def.specs.Blocks.{badPicture}
 use Rattle.evc_def.proofs.Codes.{accepted, passed, none}
 use Rattle.evc_plane.specs.declared.PlaneType.{PlaneType}
-use Rattle.evc_plane.specs.Planes.{sideOf, padOf, originOf, strideOf, rowsOf, planeLen, configOf, firstSample, sampleAt, reference, startAt}
+use Rattle.evc_plane.specs.Planes.{sideOf, padOf, originOf, strideOf, rowsOf, planeLen, configOf, firstSample, sampleAt, reference, startAt, windowStart}
 use Rattle.evc_plane.specs.Samples.{exceeds}
 use Rattle.evc_plane.specs.Padding.{paddedAt, padded, padCode, padAfter}
 use Rattle.evc_plane.proofs.Rows.{rows-ext}
@@ -81,6 +81,27 @@ module _ (k : PlaneType) (W H : ℕ) (good : badPicture W H ≡ false) where
   known : Sizes (configOf k W H)
   known = sizes k W H good
 
+  -- a clamped window of at most `pad` columns and rows lies in the plane
+  pub window-within : (zx zy : ℤ) (c r : ℕ) → c < padOf k → r < padOf k → (startAt (originOf k) (sideOf k W) zx + c < strideOf k W) × (startAt (padOf k) (sideOf k H) zy + r < rowsOf k H)
+  unfolding configOf
+  window-within zx zy c r lc lr =
+      let z = known in
+      let a = start-range (originOf k) (sideOf k W) zx in
+      let b = start-range (padOf k) (sideOf k H) zy in
+      (omega arith, omega arith)
+
+  -- what `exceeds` asks of it
+  pub window-fits : (zx zy : ℤ) (n h : ℕ) → n ≤ padOf k → h ≤ padOf k → windowStart k W H zx zy + h * strideOf k W + n ≤ planeLen k W H + strideOf k W
+  unfolding configOf windowStart
+  window-fits zx zy n h ln lh =
+      let z = known in
+      let S = strideOf k W in
+      let a = start-range (originOf k) (sideOf k W) zx in
+      let y = startAt (padOf k) (sideOf k H) zy in
+      let b : y + h ≤ rowsOf k H = (let b = start-range (padOf k) (sideOf k H) zy in omega arith) in
+      let m = mul-le-mul-right S b in
+      omega arith
+
   module _ (s : List ℕ) (long : planeLen k W H ≤ length s) where
     pub padded-length : length (padded k W H s) ≡ length s
     unfolding padded
@@ -112,22 +133,16 @@ module _ (k : PlaneType) (W H : ℕ) (good : badPicture W H ≡ false) where
     reads-reference i j x y e f lx ly =
         padded-stored y x ly lx ∙ sym (reference-stored (sampleAt k W s) (sideOf k W) (sideOf k H) (originOf k) (padOf k) x y i j e f)
 
-    -- the same for column c and row r of a clamped window, of at most `pad` columns and rows: it lies in the plane, and reads what stands at the
-    -- start before it was clamped
-    pub window-within : (zx zy : ℤ) (c r : ℕ) → c < padOf k → r < padOf k → (startAt (originOf k) (sideOf k W) zx + c < strideOf k W) × (startAt (padOf k) (sideOf k H) zy + r < rowsOf k H)
-    unfolding configOf
-    window-within zx zy c r lc lr =
-        let z = known in
-        let a = start-range (originOf k) (sideOf k W) zx in
-        let b = start-range (padOf k) (sideOf k H) zy in
-        (omega arith, omega arith)
-
-    pub window-reads-reference : (zx zy : ℤ) (c r : ℕ) → c < padOf k → r < padOf k → getD (padded k W H s) ((startAt (padOf k) (sideOf k H) zy + r) * strideOf k W + (startAt (originOf k) (sideOf k W) zx + c)) 0 ≡ reference (sampleAt k W s) (sideOf k W) (sideOf k H) (zx +ℤ pos c) (zy +ℤ pos r)
-    unfolding configOf reference
+    -- the same for column c and row r of a clamped window: it reads what stands at the start before it was clamped
+    pub window-reads-reference : (zx zy : ℤ) (c r : ℕ) → c < padOf k → r < padOf k → getD (padded k W H s) (windowStart k W H zx zy + r * strideOf k W + c) 0 ≡ reference (sampleAt k W s) (sideOf k W) (sideOf k H) (zx +ℤ pos c) (zy +ℤ pos r)
+    unfolding configOf reference windowStart
     window-reads-reference zx zy c r lc lr =
         let z = known in
         let w = window-within zx zy c r lc lr in
-        padded-stored (startAt (padOf k) (sideOf k H) zy + r) (startAt (originOf k) (sideOf k W) zx + c) (w .1) (w .0)
+        let x = startAt (originOf k) (sideOf k W) zx in
+        let y = startAt (padOf k) (sideOf k H) zy in
+        let e : y * strideOf k W + x + r * strideOf k W + c ≡ (y + r) * strideOf k W + (x + c) = omega arith in
+        ap (λ (i : ℕ). getD (padded k W H s) i 0) e ∙ padded-stored (y + r) (x + c) (w .1) (w .0)
         ∙ ap₂ (sampleAt k W s) (start-column (originOf k) (sideOf k W) zx c (omega arith)) (start-column (padOf k) (sideOf k H) zy r (omega arith))
 
   -- two planes that agree in the picture agree everywhere in the stored rows after it

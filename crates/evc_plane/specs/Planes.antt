@@ -72,6 +72,10 @@ clampStart origin size z = clip3 (− origin) (pos size) z
 unfoldable pub startAt : ℕ → ℕ → ℤ → ℕ
 startAt origin size z = (clampStart origin size z +ℤ pos origin) ⁺
 
+-- the index of the first sample of a window at the place (zx, zy), clamped
+unfoldable pub windowStart : PlaneType → ℕ → ℕ → ℤ → ℤ → ℕ
+windowStart k W H zx zy = startAt (padOf k) (sideOf k H) zy * strideOf k W + startAt (originOf k) (sideOf k W) zx
+
 -- 'Edges to try': "Strides: luma width 4: 176; 8128: 8288; chroma width 2: 96; 4064: 4160."
 abbrev pub StrideEdges : Type 0
 StrideEdges = (strideOf Y 4 ≡ 176) × (strideOf Y 8128 ≡ 8288) × (strideOf UV 4 ≡ 96) × (strideOf UV 8128 ≡ 4160)

@@ -6,12 +6,13 @@ ghost use lib.Dec.{ltb};
 ghost use lib.ListN.{length, getD, drop};
 ghost use Rattle.evc_int.specs.Lists.{withRow, withBlock};
 ghost use Rattle.evc_def.specs.Blocks.{badPicture};
-ghost use Rattle.evc_plane.specs.Planes.{padOf, originOf, sideOf, align16, planeLen, configOf};
+ghost use Rattle.evc_plane.specs.Planes.{padOf, originOf, sideOf, align16, planeLen, configOf, startAt, windowStart};
 ghost use Rattle.evc_plane.specs.Samples.{tooLarge, rowExceeds, exceeds};
 ghost use Rattle.evc_plane.specs.Padding.{padded, padCode, padAfter};
 use evc_def::MAX_SAMPLE_VAL;
 use evc_def::PIC_PAD_SIZE_C;
 use evc_def::PIC_PAD_SIZE_L;
+use evc_def::Pel;
 
 // ---- the sizes of Plane::new
 
@@ -224,6 +225,33 @@ pub fn pad(t: PlaneType, pic_w: u32, pic_h: u32, plane: &mut [u16]) -> u32
     0
 }
 
+// ---- PlaneSlice::clamp
+
+// In one direction: the stored column or row of a start, held between minus the origin and the plane's size.
+fn clamp(start: Pel, origin: usize, size: usize) -> usize
+    requires { ⌜ (origin ≤ 8128) × (size ≤ 8128) ⌝ }
+    ensures { λ r. ⌜ r ≡ startAt origin size (start .0) ⌝ }
+{
+    if start.0 < -(origin as i32) {
+        return 0;
+    }
+    if start.0 > size as i32 {
+        return origin + size;
+    }
+    (start.0 + origin as i32) as usize
+}
+
+// The index of a window's first sample, from its place in the picture.
+pub fn window_start(t: PlaneType, pic_w: u32, pic_h: u32, x: Pel, y: Pel) -> usize
+    requires { ⌜ badPicture «pic_w» «pic_h» ≡ false ⌝ }
+    ensures { λ r. ⌜ r ≡ windowStart t «pic_w» «pic_h» (x .0) (y .0) ⌝ }
+{
+    let c = plane_config(t, pic_w, pic_h);
+    let row = clamp(y, c.yorigin, c.height);
+    let column = clamp(x, c.xorigin, c.width);
+    row * c.stride + column
+}
+
 // ---- PlaneSlice: a window that holds the lent samples, its stride and place
 
 pub struct PlaneSlice<'a> {
@@ -270,9 +298,9 @@ pub fn sample<'a>(w: PlaneSlice<'a>, row: usize, col: usize) -> u16
 }
 
 // With plain parameters: whoever calls this one needs no walk by hand.
-pub fn sample_of(plane: &[u16], stride: usize, at: usize, row: usize, col: usize) -> u16
-    requires { ⌜ at + (row * stride + col) < length (now plane) ⌝ }
-    ensures { λ x. ⌜ x ≡ getD (now (plane .entry)) (at + (row * stride + col)) 0 ⌝ }
+pub fn row_of(plane: &[u16], stride: usize, at: usize, y: usize) -> &[u16]
+    requires { ⌜ at + y * stride ≤ length (now plane) ⌝ }
+    ensures { λ x. ⌜ now x ≡ drop (at + y * stride) (now (plane .entry)) ⌝ }
 {
-    sample(over(plane, stride, at), row, col)
+    row(over(plane, stride, at), y)
 }
