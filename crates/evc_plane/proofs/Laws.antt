@@ -1,0 +1,226 @@
+-- Laws of the padded plane, for every accepted picture, both types and every buffer that is long enough: what stands at each place, and that it is
+-- the padded reference picture, also through a clamped window; twice is once; equal pictures give equal planes; mirrors. Assumes nothing.
+use mathlib.Core.Bool.{Bool, true, false, cond}
+use mathlib.Core.List.{List}
+use mathlib.Core.Path.{_≡_, refl, sym, ap, ap₂, _∙_}
+use Prim.Native.Nat.{ℕ, _+_, _-_, _*_, _≤_, _<_, min}
+use native.Mathlib.Omega.{arith}
+use native.Mathlib.Nat.{le-refl, mul-le-mul-right}
+use lib.IntN.{ℤ, pos, _+ℤ_}
+use lib.ListN.{length, getD}
+use lib.Signed.{ltZ}
+use borrow.Author.Tests.{ltb-false, le-ltb}
+use Rattle.evc_int.specs.Lists.{withBlock}
+use Rattle.evc_int.specs.Whole.{−_, _⁺, _⁻, clip3}
+use Rattle.evc_int.proofs.Whole.{Tested, under, not-under}
+use Rattle.evc_int.proofs.Expressions.{ !, _⊕_, _⊖_, neg, fact, part⁺, tested-ex}
+use Rattle.evc_int.proofs.Lists.{length-withBlock, withBlock-in, withBlock-past}
+use Rattle.evc_def.specs.Blocks.{badPicture}
+use Rattle.evc_def.proofs.Codes.{accepted, passed, none}
+use Rattle.evc_plane.specs.declared.PlaneType.{PlaneType}
+use Rattle.evc_plane.specs.Planes.{sideOf, padOf, originOf, strideOf, rowsOf, planeLen, configOf, firstSample, sampleAt, reference, startAt, windowStart}
+use Rattle.evc_plane.specs.Samples.{exceeds}
+use Rattle.evc_plane.specs.Padding.{paddedAt, padded, padCode, padAfter}
+use Rattle.evc_plane.proofs.Rows.{rows-ext}
+use Rattle.evc_plane.proofs.Samples.{exceeds-none, none-exceeds}
+use Rattle.evc_plane.proofs.Sizes.{Sizes, sizes}
+
+-- ---- the padded reference picture
+
+module _ (pic : ℕ → ℕ → ℕ) (pw ph : ℕ) where
+  -- at the stored column x and row y, o and p being those of the picture's first sample
+  pub reference-stored : (o p x y : ℕ) (i j : ℤ) → i +ℤ pos o ≡ pos x → j +ℤ pos p ≡ pos y → reference pic pw ph i j ≡ pic (min (x - o) (pw - 1)) (min (y - p) (ph - 1))
+  unfolding reference
+  reference-stored o p x y i j e f =
+      let a : min (i ⁺) (pw - 1) ≡ min (x - o) (pw - 1) = omega (arith, fact (! i ⊕ ! (pos o)) (! (pos x)) e, part⁺ (! i)) in
+      let b : min (j ⁺) (ph - 1) ≡ min (y - p) (ph - 1) = omega (arith, fact (! j ⊕ ! (pos p)) (! (pos y)) f, part⁺ (! j)) in
+      ap₂ pic a b
+
+  -- pictures that agree, and pictures that are each other's mirror, by sums of positions
+  module _ (mir : ℕ → ℕ → ℕ) (wide : 1 ≤ pw) (high : 1 ≤ ph) where
+    pub reference-agree : ((i j : ℕ) → i < pw → j < ph → mir i j ≡ pic i j) → (i j : ℤ) → reference mir pw ph i j ≡ reference pic pw ph i j
+    unfolding reference
+    reference-agree h i j = h (min (i ⁺) (pw - 1)) (min (j ⁺) (ph - 1)) (omega arith) (omega arith)
+
+    pub reference-left-right : ((i i′ j : ℕ) → i + i′ + 1 ≡ pw → j < ph → mir i j ≡ pic i′ j) → (i i′ j : ℤ) → i +ℤ i′ +ℤ pos 1 ≡ pos pw → reference mir pw ph i j ≡ reference pic pw ph i′ j
+    unfolding reference
+    reference-left-right h i i′ j e =
+        h (min (i ⁺) (pw - 1)) (min (i′ ⁺) (pw - 1)) (min (j ⁺) (ph - 1)) (omega (arith, fact (! i ⊕ ! i′ ⊕ ! (pos 1)) (! (pos pw)) e, part⁺ (! i), part⁺ (! i′))) (omega arith)
+
+    pub reference-top-bottom : ((i j j′ : ℕ) → i < pw → j + j′ + 1 ≡ ph → mir i j ≡ pic i j′) → (i j j′ : ℤ) → j +ℤ j′ +ℤ pos 1 ≡ pos ph → reference mir pw ph i j ≡ reference pic pw ph i j′
+    unfolding reference
+    reference-top-bottom h i j j′ e =
+        h (min (i ⁺) (pw - 1)) (min (j ⁺) (ph - 1)) (min (j′ ⁺) (ph - 1)) (omega arith) (omega (arith, fact (! j ⊕ ! j′ ⊕ ! (pos 1)) (! (pos ph)) e, part⁺ (! j), part⁺ (! j′)))
+
+-- ---- a clamped start, in one direction
+
+module _ (origin size : ℕ) (z : ℤ) where
+  -- its stored column is at most `size` past the picture's first
+  pub start-range : startAt origin size z ≤ origin + size
+  unfolding startAt clip3
+  start-range = go (ltZ z (− origin)) (ltZ (pos size) z) (tested-ex (! z) (neg (! (pos origin)))) (tested-ex (! (pos size)) (! z))
+    where
+      go : (a b : Bool) → Tested (z ⁺ + origin) (0 + z ⁻) a → Tested (size + z ⁻) (z ⁺ + 0) b → (cond a (− origin) (cond b (pos size) z) +ℤ pos origin) ⁺ ≤ origin + size
+      go true b (under x) y = omega (arith, part⁺ (neg (! (pos origin)) ⊕ ! (pos origin)))
+      go false true (not-under x) (under y) = omega (arith, part⁺ (! (pos size) ⊕ ! (pos origin)))
+      go false false (not-under x) (not-under y) = omega (arith, part⁺ (! z ⊕ ! (pos origin)))
+
+  -- t columns on, the column held to the picture is that of the start before it was clamped
+  pub start-column : (t : ℕ) → t ≤ origin → min (startAt origin size z + t - origin) (size - 1) ≡ min ((z +ℤ pos t) ⁺) (size - 1)
+  unfolding startAt clip3
+  start-column t h = go (ltZ z (− origin)) (ltZ (pos size) z) (tested-ex (! z) (neg (! (pos origin)))) (tested-ex (! (pos size)) (! z))
+    where
+      go : (a b : Bool) → Tested (z ⁺ + origin) (0 + z ⁻) a → Tested (size + z ⁻) (z ⁺ + 0) b → min ((cond a (− origin) (cond b (pos size) z) +ℤ pos origin) ⁺ + t - origin) (size - 1) ≡ min ((z +ℤ pos t) ⁺) (size - 1)
+      go true b (under x) y = omega (arith, part⁺ (neg (! (pos origin)) ⊕ ! (pos origin)), part⁺ (! z ⊕ ! (pos t)))
+      go false true (not-under x) (under y) = omega (arith, part⁺ (! z ⊕ ! (pos t)))
+      go false false (not-under x) (not-under y) = omega (arith, part⁺ (! z ⊕ ! (pos origin)), part⁺ (! z ⊕ ! (pos t)))
+
+-- ---- the padded plane
+
+module _ (k : PlaneType) (W H : ℕ) (good : badPicture W H ≡ false) where
+  known : Sizes (configOf k W H)
+  known = sizes k W H good
+
+  -- a clamped window of at most `pad` columns and rows lies in the plane
+  pub window-within : (zx zy : ℤ) (c r : ℕ) → c < padOf k → r < padOf k → (startAt (originOf k) (sideOf k W) zx + c < strideOf k W) × (startAt (padOf k) (sideOf k H) zy + r < rowsOf k H)
+  unfolding configOf
+  window-within zx zy c r lc lr =
+      let z = known in
+      let a = start-range (originOf k) (sideOf k W) zx in
+      let b = start-range (padOf k) (sideOf k H) zy in
+      (omega arith, omega arith)
+
+  -- what `exceeds` asks of it
+  pub window-fits : (zx zy : ℤ) (n h : ℕ) → n ≤ padOf k → h ≤ padOf k → windowStart k W H zx zy + h * strideOf k W + n ≤ planeLen k W H + strideOf k W
+  unfolding configOf windowStart
+  window-fits zx zy n h ln lh =
+      let z = known in
+      let S = strideOf k W in
+      let a = start-range (originOf k) (sideOf k W) zx in
+      let y = startAt (padOf k) (sideOf k H) zy in
+      let b : y + h ≤ rowsOf k H = (let b = start-range (padOf k) (sideOf k H) zy in omega arith) in
+      let m = mul-le-mul-right S b in
+      omega arith
+
+  module _ (s : List ℕ) (long : planeLen k W H ≤ length s) where
+    pub padded-length : length (padded k W H s) ≡ length s
+    unfolding padded
+    padded-length = length-withBlock s 0 (strideOf k W) (strideOf k W) (rowsOf k H) (paddedAt k W H s)
+
+    pub padded-stored : (y x : ℕ) → y < rowsOf k H → x < strideOf k W → getD (padded k W H s) (y * strideOf k W + x) 0 ≡ paddedAt k W H s y x
+    unfolding padded
+    padded-stored y x ly lx =
+        let S = strideOf k W in
+        let e : y * S + x ≡ 0 + y * S + x = omega arith in
+        ap (λ (i : ℕ). getD (padded k W H s) i 0) e ∙ withBlock-in 0 s 0 S S (rowsOf k H) (paddedAt k W H s) y x ly lx (le-refl S) (omega arith)
+
+    -- "the excess is neither examined nor changed"
+    pub padded-past : (i : ℕ) → planeLen k W H ≤ i → getD (padded k W H s) i 0 ≡ getD s i 0
+    unfolding padded
+    padded-past i b = withBlock-past 0 s 0 (strideOf k W) (strideOf k W) (rowsOf k H) (paddedAt k W H s) i (le-refl (strideOf k W)) (omega arith)
+
+    -- picture samples stay
+    pub picture-kept : (i j : ℕ) → i < sideOf k W → j < sideOf k H → sampleAt k W (padded k W H s) i j ≡ sampleAt k W s i j
+    unfolding configOf
+    picture-kept i j li lj =
+        let z = known in
+        let a : min (originOf k + i - originOf k) (sideOf k W - 1) ≡ i = omega arith in
+        let b : min (padOf k + j - padOf k) (sideOf k H - 1) ≡ j = omega arith in
+        padded-stored (padOf k + j) (originOf k + i) (omega arith) (omega arith) ∙ ap₂ (sampleAt k W s) a b
+
+    -- the bridge to demand 3: the stored sample of every position from the first stored column and row to the last is the padded reference picture's
+    pub reads-reference : (i j : ℤ) (x y : ℕ) → i +ℤ pos (originOf k) ≡ pos x → j +ℤ pos (padOf k) ≡ pos y → x < strideOf k W → y < rowsOf k H → getD (padded k W H s) (y * strideOf k W + x) 0 ≡ reference (sampleAt k W s) (sideOf k W) (sideOf k H) i j
+    reads-reference i j x y e f lx ly =
+        padded-stored y x ly lx ∙ sym (reference-stored (sampleAt k W s) (sideOf k W) (sideOf k H) (originOf k) (padOf k) x y i j e f)
+
+    -- the same for column c and row r of a clamped window: it reads what stands at the start before it was clamped
+    pub window-reads-reference : (zx zy : ℤ) (c r : ℕ) → c < padOf k → r < padOf k → getD (padded k W H s) (windowStart k W H zx zy + r * strideOf k W + c) 0 ≡ reference (sampleAt k W s) (sideOf k W) (sideOf k H) (zx +ℤ pos c) (zy +ℤ pos r)
+    unfolding configOf reference windowStart
+    window-reads-reference zx zy c r lc lr =
+        let z = known in
+        let w = window-within zx zy c r lc lr in
+        let x = startAt (originOf k) (sideOf k W) zx in
+        let y = startAt (padOf k) (sideOf k H) zy in
+        let e : y * strideOf k W + x + r * strideOf k W + c ≡ (y + r) * strideOf k W + (x + c) = omega arith in
+        ap (λ (i : ℕ). getD (padded k W H s) i 0) e ∙ padded-stored (y + r) (x + c) (w .1) (w .0)
+        ∙ ap₂ (sampleAt k W s) (start-column (originOf k) (sideOf k W) zx c (omega arith)) (start-column (padOf k) (sideOf k H) zy r (omega arith))
+
+  -- two planes that agree in the picture agree everywhere in the stored rows after it
+  pub agree : (s t : List ℕ) → planeLen k W H ≤ length s → planeLen k W H ≤ length t → ((i j : ℕ) → i < sideOf k W → j < sideOf k H → sampleAt k W s i j ≡ sampleAt k W t i j) → (y x : ℕ) → y < rowsOf k H → x < strideOf k W → getD (padded k W H s) (y * strideOf k W + x) 0 ≡ getD (padded k W H t) (y * strideOf k W + x) 0
+  unfolding configOf
+  agree s t a b h y x ly lx =
+      let z = known in
+      padded-stored s a y x ly lx
+      ∙ h (min (x - originOf k) (sideOf k W - 1)) (min (y - padOf k) (sideOf k H - 1)) (omega arith) (omega arith)
+      ∙ sym (padded-stored t b y x ly lx)
+
+  -- padding twice is padding once
+  pub padded-twice : (s : List ℕ) → planeLen k W H ≤ length s → padded k W H (padded k W H s) ≡ padded k W H s
+  padded-twice s a =
+      let p = padded k W H s in
+      let b : planeLen k W H ≤ length p = omega (arith, padded-length s a) in
+      rows-ext (strideOf k W) (rowsOf k H) (padded k W H p) p (padded-length p b) (agree p s b a (picture-kept s a)) (λ i l. padded-past p b i (omega arith))
+
+  -- ---- mirrors: the padded plane of a mirrored picture reads as the mirrored padded reference picture
+
+  module _ (s t : List ℕ) (long : planeLen k W H ≤ length t) where
+    pub mirrored-left-right : ((i i′ j : ℕ) → i + i′ + 1 ≡ sideOf k W → j < sideOf k H → sampleAt k W t i j ≡ sampleAt k W s i′ j) → (i i′ j : ℤ) (x y : ℕ) → i +ℤ i′ +ℤ pos 1 ≡ pos (sideOf k W) → i +ℤ pos (originOf k) ≡ pos x → j +ℤ pos (padOf k) ≡ pos y → x < strideOf k W → y < rowsOf k H → getD (padded k W H t) (y * strideOf k W + x) 0 ≡ reference (sampleAt k W s) (sideOf k W) (sideOf k H) i′ j
+    unfolding configOf
+    mirrored-left-right h i i′ j x y m e f lx ly =
+        let z = known in
+        reads-reference t long i j x y e f lx ly
+        ∙ reference-left-right (sampleAt k W s) (sideOf k W) (sideOf k H) (sampleAt k W t) (omega arith) (omega arith) h i i′ j m
+
+    pub mirrored-top-bottom : ((i j j′ : ℕ) → i < sideOf k W → j + j′ + 1 ≡ sideOf k H → sampleAt k W t i j ≡ sampleAt k W s i j′) → (i j j′ : ℤ) (x y : ℕ) → j +ℤ j′ +ℤ pos 1 ≡ pos (sideOf k H) → i +ℤ pos (originOf k) ≡ pos x → j +ℤ pos (padOf k) ≡ pos y → x < strideOf k W → y < rowsOf k H → getD (padded k W H t) (y * strideOf k W + x) 0 ≡ reference (sampleAt k W s) (sideOf k W) (sideOf k H) i j′
+    unfolding configOf
+    mirrored-top-bottom h i j j′ x y m e f lx ly =
+        let z = known in
+        reads-reference t long i j x y e f lx ly
+        ∙ reference-top-bottom (sampleAt k W s) (sideOf k W) (sideOf k H) (sampleAt k W t) (omega arith) (omega arith) h i j j′ m
+
+-- ---- the call
+
+pub after : (k : PlaneType) (W H : ℕ) (s : List ℕ) → padCode k W H s ≡ 0 → padAfter k W H s ≡ padded k W H s
+unfolding padAfter
+after k W H s done = rw done
+
+module _ (k : PlaneType) (W H : ℕ) (s : List ℕ) (done : padCode k W H s ≡ 0) where
+  -- what an accepted call knows
+  pub accepts : (badPicture W H ≡ false) × (planeLen k W H ≤ length s) × (exceeds s (firstSample k W) (strideOf k W) (sideOf k W) (sideOf k H) ≡ false)
+  unfolding padCode
+  accepts =
+      let f = accepted 1 _ _ (omega arith) done in
+      let g = accepted 4 _ _ (omega arith) (f .1) in
+      let h = accepted 6 _ _ (omega arith) (g .1) in
+      (f .0, ltb-false (length s) (planeLen k W H) (g .0), h .0)
+
+  -- every stored sample is at most 1023, so that no window of the padded plane is refused with 6
+  pub stored-small : (y x : ℕ) → y < rowsOf k H → x < strideOf k W → getD (padded k W H s) (y * strideOf k W + x) 0 ≤ 1023
+  unfolding configOf
+  stored-small y x ly lx =
+      let a = accepts in
+      let z = sizes k W H (a .0) in
+      let i = min (x - originOf k) (sideOf k W - 1) in
+      let j = min (y - padOf k) (sideOf k H - 1) in
+      let e : padOf k * strideOf k W + originOf k + j * strideOf k W + i ≡ (padOf k + j) * strideOf k W + (originOf k + i) = omega arith in
+      let n : getD s ((padOf k + j) * strideOf k W + (originOf k + i)) 0 ≤ 1023 = rw (sym e) (exceeds-none s (firstSample k W) (strideOf k W) (sideOf k W) (sideOf k H) (a .2) j i (omega arith) (omega arith)) in
+      omega (arith, padded-stored k W H (a .0) s (a .1) y x ly lx, n)
+
+  -- a plane that was padded is accepted again, and stays as it is
+  again : padCode k W H (padded k W H s) ≡ 0
+  unfolding padCode configOf
+  again =
+      let a = accepts in
+      let z = sizes k W H (a .0) in
+      let S = strideOf k W in
+      passed _ _ _ (a .0) ∙ passed _ _ _ (le-ltb (length (padded k W H s)) (planeLen k W H) (omega (arith, padded-length k W H (a .0) s (a .1))))
+      ∙ passed _ _ _
+      (none-exceeds (padded k W H s) (firstSample k W) S (sideOf k W) (sideOf k H) (λ y x ly lx.
+      let e : (padOf k + y) * S + (originOf k + x) ≡ padOf k * S + originOf k + y * S + x = omega arith in
+      rw (sym e) (stored-small (padOf k + y) (originOf k + x) (omega arith) (omega arith))))
+      ∙ none
+
+  pub pad-twice : (padCode k W H (padAfter k W H s) ≡ 0) × (padAfter k W H (padAfter k W H s) ≡ padAfter k W H s)
+  pad-twice =
+      rw (after k W H s done)
+      (again, after k W H (padded k W H s) again ∙ padded-twice k W H (accepts .0) s (accepts .1))

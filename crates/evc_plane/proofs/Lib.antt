@@ -1,0 +1,5 @@
+pub mod Rows
+pub mod Samples
+pub mod Sizes
+pub mod Padding
+pub mod Laws

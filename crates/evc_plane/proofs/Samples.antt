@@ -1,0 +1,92 @@
+-- The examined samples: an OR exceeds 1023 exactly if one of the two does, the turns of the walk, and what its answer says of each sample.
+-- Assumes nothing.
+use Prim.Native.Nat.{ℕ, zero, suc, _+_, _*_, _<_, _≤_}
+use mathlib.Core.Bool.{Bool, true, false, _||_}
+use mathlib.Core.Path.{_≡_, refl, ap, ap₂, subst, _∙_}
+use mathlib.Core.List.{List}
+use mathlib.Core.Logic.{⊎-elim}
+use native.Mathlib.Omega.{arith}
+use native.Mathlib.Numerals.{add-one}
+use native.Mathlib.Nat.{eq-or-lt-of-le, le-of-suc-le-suc, not-suc-le-zero}
+use lib.Bits.{bitOr, bitAnd, or-lt, or-add-and, and-le-l, and-le-r}
+use lib.Dec.{T, ltb}
+use lib.ListN.{getD}
+use borrow.Author.Tests.{ltb-true, ltb-false, lt-ltb, le-ltb}
+use Rattle.evc_plane.specs.Samples.{tooLarge, rowExceeds, exceeds}
+
+pub or-too-large : (x y : ℕ) → tooLarge (bitOr x y) ≡ tooLarge x || tooLarge y
+unfolding tooLarge
+or-too-large x y = go (ltb 1023 x) (ltb 1023 y) refl refl
+  where
+    sum : bitOr x y + bitAnd x y ≡ x + y
+    sum = or-add-and x y
+
+    go : (a b : Bool) → ltb 1023 x ≡ a → ltb 1023 y ≡ b → ltb 1023 (bitOr x y) ≡ a || b
+    go true b p q = let h = ltb-true 1023 x p in lt-ltb 1023 (bitOr x y) (omega (arith, sum, and-le-r x y))
+    go false true p q = let h = ltb-true 1023 y q in lt-ltb 1023 (bitOr x y) (omega (arith, sum, and-le-l x y))
+    go false false p q =
+        let h = ltb-false 1023 x p in
+        let k = ltb-false 1023 y q in
+        le-ltb 1023 (bitOr x y) (let l : bitOr x y < 1024 = or-lt 10 x y (omega arith) (omega arith) in omega arith)
+
+-- ---- the walk: its beginning, and one sample or one row more
+
+pub zero-fits : tooLarge 0 ≡ false
+unfolding tooLarge
+zero-fits = refl
+
+module _ (s : List ℕ) (at : ℕ) where
+  pub row-none : tooLarge 0 ≡ rowExceeds s at 0
+  unfolding rowExceeds
+  row-none = zero-fits
+
+  pub row-more : (x o v r : ℕ) → tooLarge o ≡ rowExceeds s at x → v ≡ getD s (at + x) 0 → tooLarge r ≡ tooLarge o || tooLarge v → tooLarge r ≡ rowExceeds s at (x + 1)
+  unfolding rowExceeds
+  row-more x o v r p q e = rw add-one (e ∙ ap₂ (λ (a b : Bool). a || b) p (ap tooLarge q))
+
+  module _ (stride n : ℕ) where
+    pub rows-none : tooLarge 0 ≡ exceeds s at stride n 0
+    unfolding exceeds
+    rows-none = zero-fits
+
+    pub rows-more : (y o v r : ℕ) → tooLarge o ≡ exceeds s at stride n y → tooLarge v ≡ rowExceeds s (at + y * stride) n → tooLarge r ≡ tooLarge o || tooLarge v → tooLarge r ≡ exceeds s at stride n (y + 1)
+    unfolding exceeds
+    rows-more y o v r p q e = rw add-one (e ∙ ap₂ (λ (a b : Bool). a || b) p q)
+
+-- ---- what the answer says of each sample
+
+or-none : (a b : Bool) → a || b ≡ false → (a ≡ false) × (b ≡ false)
+or-none true b e = (e, absurd (subst T e tt))
+or-none false b e = (refl, e)
+
+small : (x : ℕ) → tooLarge x ≡ false → x ≤ 1023
+unfolding tooLarge
+small x e = ltb-false 1023 x e
+
+row-small : (s : List ℕ) (at n : ℕ) → rowExceeds s at n ≡ false → (x : ℕ) → x < n → getD s (at + x) 0 ≤ 1023
+unfolding rowExceeds
+row-small s at zero e x lt = absurd (not-suc-le-zero lt)
+row-small s at (suc n) e x lt =
+    let h = or-none (rowExceeds s at n) (tooLarge (getD s (at + n) 0)) e in
+    ⊎-elim (λ (q : x ≡ n). rw q (small (getD s (at + n) 0) (h .1))) (λ (q : x < n). row-small s at n (h .0) x q) (eq-or-lt-of-le (le-of-suc-le-suc lt))
+
+-- none of the samples is above 1023 where the answer is false ..
+pub exceeds-none : (s : List ℕ) (at stride n h : ℕ) → exceeds s at stride n h ≡ false → (y x : ℕ) → y < h → x < n → getD s (at + y * stride + x) 0 ≤ 1023
+unfolding exceeds
+exceeds-none s at stride n zero e y x ly lx = absurd (not-suc-le-zero ly)
+exceeds-none s at stride n (suc h) e y x ly lx =
+    let b = or-none (exceeds s at stride n h) (rowExceeds s (at + h * stride) n) e in
+    ⊎-elim (λ (q : y ≡ h). rw q (row-small s (at + h * stride) n (b .1) x lx)) (λ (q : y < h). exceeds-none s at stride n h (b .0) y x q lx) (eq-or-lt-of-le (le-of-suc-le-suc ly))
+
+-- .. and only there
+row-all-small : (s : List ℕ) (at n : ℕ) → ((x : ℕ) → x < n → getD s (at + x) 0 ≤ 1023) → rowExceeds s at n ≡ false
+unfolding rowExceeds tooLarge
+row-all-small s at zero h = refl
+row-all-small s at (suc n) h =
+    ap₂ (λ (a b : Bool). a || b) (row-all-small s at n (λ x lt. h x (omega arith))) (le-ltb 1023 (getD s (at + n) 0) (h n (omega arith)))
+
+pub none-exceeds : (s : List ℕ) (at stride n h : ℕ) → ((y x : ℕ) → y < h → x < n → getD s (at + y * stride + x) 0 ≤ 1023) → exceeds s at stride n h ≡ false
+unfolding exceeds
+none-exceeds s at stride n zero q = refl
+none-exceeds s at stride n (suc h) q =
+    ap₂ (λ (a b : Bool). a || b) (none-exceeds s at stride n h (λ y x ly lx. q y x (omega arith) lx)) (row-all-small s (at + h * stride) n (λ x lx. q h x (omega arith) lx))

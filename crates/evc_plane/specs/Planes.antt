@@ -1,0 +1,85 @@
+-- Document 01, 'Planes': the sizes of a plane's buffer, and where its picture stands in it. One definition for luma and chroma.
+use mathlib.Core.Path.{_≡_, refl}
+use mathlib.Core.List.{List}
+use Prim.Native.Nat.{ℕ, _+_, _*_, _/_, _-_, min}
+use lib.IntN.{ℤ, pos, _+ℤ_}
+use lib.ListN.{getD}
+use Rattle.evc_int.specs.Whole.{−_, _⁺, clip3}
+use Rattle.evc_plane.specs.declared.PlaneType.{PlaneType}
+use Rattle.evc_plane.specs.declared.PlaneType.the-variants.{Y, UV}
+use Rattle.evc_plane.specs.declared.PlaneConfig.{PlaneConfig}
+
+-- "chroma planes have half of each": a plane's side, from the picture's
+abbrev pub sideOf : PlaneType → ℕ → ℕ
+sideOf Y n = n
+sideOf UV n = n / 2
+
+-- "Luma pad 80, chroma pad 40."
+abbrev pub padOf : PlaneType → ℕ
+padOf Y = 80
+padOf UV = 40
+
+-- "rounded up to a multiple of 16"
+abbrev pub align16 : ℕ → ℕ
+align16 n = (n + 15) / 16 * 16
+
+-- "The left origin is the pad rounded up to a multiple of 16: 80 and 48."
+unfoldable pub originOf : PlaneType → ℕ
+originOf k = align16 (padOf k)
+
+-- "Stride is left origin + width + pad, rounded up to 16."
+unfoldable pub strideOf : PlaneType → ℕ → ℕ
+strideOf k W = align16 (originOf k + sideOf k W + padOf k)
+
+-- "Rows: pad + height + pad."
+unfoldable pub rowsOf : PlaneType → ℕ → ℕ
+rowsOf k H = padOf k + sideOf k H + padOf k
+
+-- "Lengths needed: a plane, stride × rows"
+abbrev pub planeLen : PlaneType → ℕ → ℕ → ℕ
+planeLen k W H = strideOf k W * rowsOf k H
+
+-- all of these, as the code hands them on
+unfoldable pub configOf : PlaneType → ℕ → ℕ → PlaneConfig
+configOf k W H =
+    record {
+      stride = strideOf k W;
+      «alloc_height» = rowsOf k H;
+      width = sideOf k W;
+      height = sideOf k H;
+      xorigin = originOf k;
+      yorigin = padOf k;
+    }
+
+-- the index of the picture's first sample
+abbrev pub firstSample : PlaneType → ℕ → ℕ
+firstSample k W = padOf k * strideOf k W + originOf k
+
+-- the picture's sample at column i and row j
+abbrev pub sampleAt : PlaneType → ℕ → List ℕ → ℕ → ℕ → ℕ
+sampleAt k W s i j = getD s ((padOf k + j) * strideOf k W + (originOf k + i)) 0
+
+-- the padded reference picture ('What demand 3 compares'): "its sample at any whole (i, j) is the picture's at i held to 0..pw - 1 and j held to
+-- 0..ph - 1."
+unfoldable pub reference : (ℕ → ℕ → ℕ) → ℕ → ℕ → ℤ → ℤ → ℕ
+reference pic pw ph i j = pic (min (i ⁺) (pw - 1)) (min (j ⁺) (ph - 1))
+
+-- "`PlaneSlice::clamp` then holds the start between minus the origin and the plane's size.": in one direction
+abbrev pub clampStart : ℕ → ℕ → ℤ → ℤ
+clampStart origin size z = clip3 (− origin) (pos size) z
+
+-- the stored column or row of a clamped start
+unfoldable pub startAt : ℕ → ℕ → ℤ → ℕ
+startAt origin size z = (clampStart origin size z +ℤ pos origin) ⁺
+
+-- the index of the first sample of a window at the place (zx, zy), clamped
+unfoldable pub windowStart : PlaneType → ℕ → ℕ → ℤ → ℤ → ℕ
+windowStart k W H zx zy = startAt (padOf k) (sideOf k H) zy * strideOf k W + startAt (originOf k) (sideOf k W) zx
+
+-- 'Edges to try': "Strides: luma width 4: 176; 8128: 8288; chroma width 2: 96; 4064: 4160."
+abbrev pub StrideEdges : Type 0
+StrideEdges = (strideOf Y 4 ≡ 176) × (strideOf Y 8128 ≡ 8288) × (strideOf UV 4 ≡ 96) × (strideOf UV 8128 ≡ 4160)
+
+pub strideEdges : StrideEdges
+unfolding strideOf originOf
+strideEdges = (refl, refl, refl, refl)

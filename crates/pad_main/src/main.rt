@@ -1,0 +1,3 @@
+fn main() {
+    pad_text::run(true);
+}
