@@ -1,0 +1,84 @@
+-- Document 01, 'One plane' and 'The fixed filters': the interpolation. One definition for luma and chroma.
+use mathlib.Core.List.{List, [], _∷_}
+use mathlib.Core.Path.{_≡_, refl}
+use Prim.Native.Nat.{ℕ, suc, _+_, _*_, min}
+use lib.IntN.{ℤ, pos, _+ℤ_, _*ℤ_}
+use lib.ListN.{getD}
+use lib.Signed.{shrZ}
+use Rattle.evc_int.specs.Whole.{−_, _⁺}
+use Rattle.evc_def.specs.Tables.{tblMcLCoeff, tblMcCCoeff}
+use Rattle.evc_plane.specs.declared.PlaneType.{PlaneType}
+use Rattle.evc_plane.specs.declared.PlaneType.the-variants.{Y, UV}
+
+-- "The fixed filters are `tbl_mc_l_coeff` and `tbl_mc_c_coeff`.": the taps of a phase
+abbrev pub taps : PlaneType → ℕ → List ℤ
+taps Y phase = getD tblMcLCoeff phase []
+taps UV phase = getD tblMcCCoeff phase []
+
+-- how many phases a sample has: "its low 2 bits, and the position >> 2; chroma 3"
+abbrev pub phases : PlaneType → ℕ
+phases Y = 4
+phases UV = 8
+
+-- "Paths start at the place less 2 (chroma 1) in a filtered direction"
+abbrev pub lead : PlaneType → ℕ
+lead Y = 2
+lead UV = 1
+
+-- how many samples a filter reaches past the first: "w + 5 by h + 5 (chroma + 3)"
+abbrev pub reach : PlaneType → ℕ
+reach Y = 5
+reach UV = 3
+
+-- the tap sum, for any number of taps: tap k times f k
+abbrev pub tapSum : List ℤ → (ℕ → ℤ) → ℤ
+tapSum [] f = pos 0
+tapSum (t ∷ ts) f = t *ℤ f 0 +ℤ tapSum ts (λ (k : ℕ). f (suc k))
+
+-- "Filtered results are held to 0..1023."
+abbrev pub clipSample : ℤ → ℕ
+clipSample z = min (z ⁺) 1023
+
+-- "One direction: (sum + 32) >> 6."
+abbrev pub oneDirection : ℤ → ℕ
+oneDirection sum = clipSample (shrZ (sum +ℤ pos 32) 64)
+
+-- "Two: rows first, sum >> 2, then columns, (sum + 512) >> 10."
+abbrev pub firstStage : ℤ → ℤ
+firstStage sum = shrZ sum 4
+
+abbrev pub secondStage : ℤ → ℕ
+secondStage sum = clipSample (shrZ (sum +ℤ pos 512) 1024)
+
+-- the samples of a stored plane from an index on, `step` apart
+abbrev pub along : List ℕ → ℕ → ℕ → ℕ → ℤ
+along s at step k = pos (getD s (at + k * step) 0)
+
+-- ---- a predicted sample, by the path. `at` is the index of the window's sample for it: the first one that the taps lie on
+
+-- rows or columns alone
+unfoldable pub interpolated : PlaneType → ℕ → List ℕ → ℕ → ℕ → ℕ
+interpolated k phase s at step = oneDirection (tapSum (taps k phase) (along s at step))
+
+-- rows, then columns of what the rows gave
+unfoldable pub rowStage : PlaneType → ℕ → List ℕ → ℕ → ℤ
+rowStage k dx s at = firstStage (tapSum (taps k dx) (along s at 1))
+
+unfoldable pub interpolatedTwice : PlaneType → ℕ → ℕ → List ℕ → ℕ → ℕ → ℕ
+interpolatedTwice k dx dy s at stride = secondStage (tapSum (taps k dy) (λ (j : ℕ). rowStage k dx s (at + j * stride)))
+
+-- 'Edges to try': the lines on the filters
+abbrev over : PlaneType → ℕ → List ℕ → ℤ
+over k phase s = tapSum (taps k phase) (along s 0 1)
+
+abbrev pub FilterEdges : Type 0
+FilterEdges =
+    (oneDirection (over Y 2 (0 ∷ 0 ∷ 1023 ∷ 1023 ∷ 0 ∷ 0 ∷ [])) ≡ 1023)
+    × (oneDirection (over Y 2 (1023 ∷ 1023 ∷ 0 ∷ 0 ∷ 1023 ∷ 1023 ∷ [])) ≡ 0)
+    × (oneDirection (over Y 1 (0 ∷ 0 ∷ 100 ∷ 200 ∷ 0 ∷ 0 ∷ [])) ≡ 144)
+    × (oneDirection (over Y 3 (0 ∷ 0 ∷ 100 ∷ 200 ∷ 0 ∷ 0 ∷ [])) ≡ 194)
+    × (oneDirection (over UV 1 (0 ∷ 64 ∷ 128 ∷ 0 ∷ [])) ≡ 78)
+    × (firstStage (over Y 1 (0 ∷ 1 ∷ 0 ∷ 0 ∷ 0 ∷ 0 ∷ [])) ≡ − 2)
+
+pub filterEdges : FilterEdges
+filterEdges = (refl, refl, refl, refl, refl, refl)
