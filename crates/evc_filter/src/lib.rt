@@ -1,0 +1,420 @@
+ghost use mathlib.Core.Path.{_≡_};
+ghost use Prim.Native.Nat.{ℕ, _+_, _-_, _*_, _/_, _%_, _<_, _≤_, min};
+ghost use lib.ListN.{length, getD};
+ghost use mathlib.Core.Bool.{true};
+ghost use Rattle.evc_int.specs.Lists.{withRow, withBlock};
+ghost use Rattle.evc_filter.specs.Code.{tapsOf, Small, quarterSum, wholeSum, splitSum, finished, Ordered, Bounded, quarterAt, oneAt, splitAt, isRowWidth};
+
+// The sizes of a filter's taps, for sums a p - b q + 2 c x + 2 d y of 16 bits.
+pub struct Taps {
+    pub a: u16,
+    pub b: u16,
+    pub c: u16,
+    pub d: u16,
+}
+
+// A product of 16 bits. The bounds are for the proof: callers then need no law on products.
+fn times(t: u16, x: u16, t_max: u16, x_max: u16) -> u16
+    requires { ⌜ (t ≤ «t_max») × (x ≤ «x_max») × («t_max» * «x_max» ≤ 65535) ⌝ }
+    ensures { λ r. ⌜ (r ≡ t * x) × (r ≤ «t_max» * «x_max») × (r ≤ t * «x_max») × (r ≤ «t_max» * x) ⌝ }
+{
+    t * x
+}
+
+// The tap sum of samples, >> 2, with 5120 more: the first of two stages, and for one direction too,
+// since (sum + 32) >> 6 is ((sum >> 2) + 8) >> 4.
+fn quarter_sum(t: Taps, p: u16, q: u16, x: u16, y: u16) -> u16
+    requires { ⌜ Small t ⌝ }
+    requires { ⌜ (p ≤ 2046) × (q ≤ 2046) × (x ≤ 1023) × (y ≤ 1023) ⌝ }
+    ensures { λ r. ⌜ (r ≡ quarterSum t p q x y) × (r ≤ 26603) ⌝ }
+{
+    (((times(t.a, p, 2, 2046) + 20480 - times(t.b, q, 10, 2046)) >> 1)
+        + times(t.c, x, 32, 1023)
+        + times(t.d, y, 29, 1023))
+        >> 1
+}
+
+fn whole_sum(t: Taps, p: u16, q: u16, x: u16, y: u16, bias: u16) -> u16
+    requires { ⌜ Small t ⌝ }
+    requires { ⌜ (p ≤ 831) × (q ≤ 831) × (x ≤ 415) × (y ≤ 415) × (10 * q ≤ bias) × (bias ≤ 8310) ⌝ }
+    ensures { λ r. ⌜ (r ≡ wholeSum t p q x y bias) × (r ≤ 43172) ⌝ }
+{
+    times(t.a, p, 2, 831) + 2 * times(t.c, x, 32, 415) + 2 * times(t.d, y, 29, 415) + bias
+        - times(t.b, q, 10, 831)
+}
+
+// The tap sum of the first stage's numbers, >> 6 and biased: each number is split at 6 bits, so that both sums fit 16.
+fn split_sum(t: Taps, p: u16, q: u16, x: u16, y: u16) -> u16
+    requires { ⌜ Small t ⌝ }
+    requires { ⌜ (p ≤ 53206) × (q ≤ 53206) × (x ≤ 26603) × (y ≤ 26603) ⌝ }
+    ensures { λ r. ⌜ r ≡ splitSum t p q x y ⌝ }
+{
+    let high = whole_sum(t, p / 64, q / 64, x / 64, y / 64, 8310);
+    let low = whole_sum(t, p % 64, q % 64, x % 64, y % 64, 1152);
+    high + (low >> 6)
+}
+
+fn less(n: u16, low: u16) -> u16
+    ensures { λ r. ⌜ r ≡ n - low ⌝ }
+{
+    if n < low { 0 } else { n - low }
+}
+
+fn at_most_1023(n: u16) -> u16
+    ensures { λ r. ⌜ r ≡ min n 1023 ⌝ }
+{
+    if n > 1023 { 1023 } else { n }
+}
+
+// Rounded down by 4 bits, less the bias, held to 0..1023.
+fn finish(n: u16, low: u16) -> u16
+    ensures { λ r. ⌜ r ≡ finished low n ⌝ }
+{
+    at_most_1023(less(n >> 4, low))
+}
+
+// ---- at a place
+
+// Where the samples under the taps lie, from the first one on.
+pub struct Offsets {
+    pub q0: usize,
+    pub x: usize,
+    pub y: usize,
+    pub q1: usize,
+    pub p1: usize,
+}
+
+fn sample(s: &[u16], i: usize) -> u16
+    requires { ⌜ i < length (now s) ⌝ }
+    ensures { λ r. ⌜ r ≡ getD (now (s .entry)) i 0 ⌝ }
+{
+    s[i]
+}
+
+fn pair_sum(s: &[u16], i: usize, j: usize) -> u16
+    requires { ⌜ (i < length (now s)) × (j < length (now s)) × (getD (now s) i 0 ≤ 26603) × (getD (now s) j 0 ≤ 26603) ⌝ }
+    ensures { λ r. ⌜ r ≡ getD (now (s .entry)) i 0 + getD (now (s .entry)) j 0 ⌝ }
+{
+    s[i] + s[j]
+}
+
+fn quarter_at(s: &[u16], at: usize, o: Offsets, t: Taps) -> u16
+    requires { ⌜ (at + o .p1 < length (now s)) × Ordered o × Small t × Bounded 1023 (now s) at o ⌝ }
+    ensures { λ r. ⌜ (r ≡ quarterAt (now (s .entry)) at o t) × (r ≤ 26603) ⌝ }
+{
+    quarter_sum(
+        t,
+        pair_sum(s, at, at + o.p1),
+        pair_sum(s, at + o.q0, at + o.q1),
+        sample(s, at + o.x),
+        sample(s, at + o.y),
+    )
+}
+
+fn one_at(s: &[u16], at: usize, o: Offsets, t: Taps) -> u16
+    requires { ⌜ (at + o .p1 < length (now s)) × Ordered o × Small t × Bounded 1023 (now s) at o ⌝ }
+    ensures { λ r. ⌜ r ≡ oneAt (now (s .entry)) at o t ⌝ }
+{
+    finish(quarter_at(s, at, o, t) + 8, 320)
+}
+
+fn split_at(s: &[u16], at: usize, o: Offsets, t: Taps) -> u16
+    requires { ⌜ (at + o .p1 < length (now s)) × Ordered o × Small t × Bounded 26603 (now s) at o ⌝ }
+    ensures { λ r. ⌜ r ≡ splitAt (now (s .entry)) at o t ⌝ }
+{
+    let sum = split_sum(
+        t,
+        pair_sum(s, at, at + o.p1),
+        pair_sum(s, at + o.q0, at + o.q1),
+        sample(s, at + o.x),
+        sample(s, at + o.y),
+    );
+    finish(sum, 840)
+}
+
+// ---- lanes, rows and blocks of each stage: all samples are read before one is written, so that the eight lanes are one vector
+
+fn quarter_oct(s: &[u16], at: usize, o: Offsets, t: Taps, d: &mut [u16], to: usize)
+    requires { ⌜ (at + 8 + o .p1 ≤ length (now s)) × (to + 8 ≤ length (now d)) × Ordered o × Small t ⌝ }
+    requires { ⌜ ((x : ℕ) → x < 8 → Bounded 1023 (now s) (at + x) o) ⌝ }
+    ensures { λ _. ⌜ now (d .exit) ≡ withRow (now (d .entry)) to 8 (λ (x : ℕ). quarterAt (now (s .entry)) (at + x) o t) ⌝ }
+{
+    let v0 = quarter_at(s, at, o, t);
+    let v1 = quarter_at(s, at + 1, o, t);
+    let v2 = quarter_at(s, at + 2, o, t);
+    let v3 = quarter_at(s, at + 3, o, t);
+    let v4 = quarter_at(s, at + 4, o, t);
+    let v5 = quarter_at(s, at + 5, o, t);
+    let v6 = quarter_at(s, at + 6, o, t);
+    let v7 = quarter_at(s, at + 7, o, t);
+    d[to] = v0;
+    d[to + 1] = v1;
+    d[to + 2] = v2;
+    d[to + 3] = v3;
+    d[to + 4] = v4;
+    d[to + 5] = v5;
+    d[to + 6] = v6;
+    d[to + 7] = v7;
+}
+
+fn quarter_quad(s: &[u16], at: usize, o: Offsets, t: Taps, d: &mut [u16], to: usize)
+    requires { ⌜ (at + 4 + o .p1 ≤ length (now s)) × (to + 4 ≤ length (now d)) × Ordered o × Small t ⌝ }
+    requires { ⌜ ((x : ℕ) → x < 4 → Bounded 1023 (now s) (at + x) o) ⌝ }
+    ensures { λ _. ⌜ now (d .exit) ≡ withRow (now (d .entry)) to 4 (λ (x : ℕ). quarterAt (now (s .entry)) (at + x) o t) ⌝ }
+{
+    let v0 = quarter_at(s, at, o, t);
+    let v1 = quarter_at(s, at + 1, o, t);
+    let v2 = quarter_at(s, at + 2, o, t);
+    let v3 = quarter_at(s, at + 3, o, t);
+    d[to] = v0;
+    d[to + 1] = v1;
+    d[to + 2] = v2;
+    d[to + 3] = v3;
+}
+
+fn quarter_pair(s: &[u16], at: usize, o: Offsets, t: Taps, d: &mut [u16], to: usize)
+    requires { ⌜ (at + 2 + o .p1 ≤ length (now s)) × (to + 2 ≤ length (now d)) × Ordered o × Small t ⌝ }
+    requires { ⌜ ((x : ℕ) → x < 2 → Bounded 1023 (now s) (at + x) o) ⌝ }
+    ensures { λ _. ⌜ now (d .exit) ≡ withRow (now (d .entry)) to 2 (λ (x : ℕ). quarterAt (now (s .entry)) (at + x) o t) ⌝ }
+{
+    let v0 = quarter_at(s, at, o, t);
+    let v1 = quarter_at(s, at + 1, o, t);
+    d[to] = v0;
+    d[to + 1] = v1;
+}
+
+fn quarter_row(s: &[u16], at: usize, n: usize, o: Offsets, t: Taps, d: &mut [u16], to: usize)
+    requires { ⌜ (at + n + o .p1 ≤ length (now s)) × (to + n ≤ length (now d)) × (isRowWidth n ≡ true) × Ordered o × Small t ⌝ }
+    requires { ⌜ ((x : ℕ) → x < n → Bounded 1023 (now s) (at + x) o) ⌝ }
+    ensures { λ _. ⌜ now (d .exit) ≡ withRow (now (d .entry)) to n (λ (x : ℕ). quarterAt (now (s .entry)) (at + x) o t) ⌝ }
+{
+    if n == 4 {
+        quarter_quad(s, at, o, t, d, to);
+        return;
+    }
+    if n == 2 {
+        quarter_pair(s, at, o, t, d, to);
+        return;
+    }
+    let mut x = 0;
+    while x + 8 <= n {
+        quarter_oct(s, at + x, o, t, d, to + x);
+        x += 8;
+    }
+}
+
+// `one` is 1: a step that the optimizer does not know keeps it from widening the loop over rows (three times slower).
+fn quarter_block(
+    s: &[u16],
+    at: usize,
+    stride: usize,
+    n: usize,
+    h: usize,
+    o: Offsets,
+    t: Taps,
+    d: &mut [u16],
+    to: usize,
+    width: usize,
+    one: usize,
+)
+    requires { ⌜ (at + h * stride + n + o .p1 ≤ length (now s) + stride) × (to + h * width + n ≤ length (now d) + width) × (isRowWidth n ≡ true) × Ordered o × Small t ⌝ }
+    requires { ⌜ ((y x : ℕ) → y < h → x < n → Bounded 1023 (now s) (at + y * stride + x) o) ⌝ }
+    requires { ⌜ one ≡ 1 ⌝ }
+    ensures { λ _. ⌜ now (d .exit) ≡ withBlock (now (d .entry)) to width n h (λ (y x : ℕ). quarterAt (now (s .entry)) (at + y * stride + x) o t) ⌝ }
+{
+    let mut y = 0;
+    while y < h {
+        quarter_row(s, at + y * stride, n, o, t, d, to + y * width);
+        y += one;
+    }
+}
+
+fn one_oct(s: &[u16], at: usize, o: Offsets, t: Taps, d: &mut [u16], to: usize)
+    requires { ⌜ (at + 8 + o .p1 ≤ length (now s)) × (to + 8 ≤ length (now d)) × Ordered o × Small t ⌝ }
+    requires { ⌜ ((x : ℕ) → x < 8 → Bounded 1023 (now s) (at + x) o) ⌝ }
+    ensures { λ _. ⌜ now (d .exit) ≡ withRow (now (d .entry)) to 8 (λ (x : ℕ). oneAt (now (s .entry)) (at + x) o t) ⌝ }
+{
+    let v0 = one_at(s, at, o, t);
+    let v1 = one_at(s, at + 1, o, t);
+    let v2 = one_at(s, at + 2, o, t);
+    let v3 = one_at(s, at + 3, o, t);
+    let v4 = one_at(s, at + 4, o, t);
+    let v5 = one_at(s, at + 5, o, t);
+    let v6 = one_at(s, at + 6, o, t);
+    let v7 = one_at(s, at + 7, o, t);
+    d[to] = v0;
+    d[to + 1] = v1;
+    d[to + 2] = v2;
+    d[to + 3] = v3;
+    d[to + 4] = v4;
+    d[to + 5] = v5;
+    d[to + 6] = v6;
+    d[to + 7] = v7;
+}
+
+fn one_quad(s: &[u16], at: usize, o: Offsets, t: Taps, d: &mut [u16], to: usize)
+    requires { ⌜ (at + 4 + o .p1 ≤ length (now s)) × (to + 4 ≤ length (now d)) × Ordered o × Small t ⌝ }
+    requires { ⌜ ((x : ℕ) → x < 4 → Bounded 1023 (now s) (at + x) o) ⌝ }
+    ensures { λ _. ⌜ now (d .exit) ≡ withRow (now (d .entry)) to 4 (λ (x : ℕ). oneAt (now (s .entry)) (at + x) o t) ⌝ }
+{
+    let v0 = one_at(s, at, o, t);
+    let v1 = one_at(s, at + 1, o, t);
+    let v2 = one_at(s, at + 2, o, t);
+    let v3 = one_at(s, at + 3, o, t);
+    d[to] = v0;
+    d[to + 1] = v1;
+    d[to + 2] = v2;
+    d[to + 3] = v3;
+}
+
+fn one_pair(s: &[u16], at: usize, o: Offsets, t: Taps, d: &mut [u16], to: usize)
+    requires { ⌜ (at + 2 + o .p1 ≤ length (now s)) × (to + 2 ≤ length (now d)) × Ordered o × Small t ⌝ }
+    requires { ⌜ ((x : ℕ) → x < 2 → Bounded 1023 (now s) (at + x) o) ⌝ }
+    ensures { λ _. ⌜ now (d .exit) ≡ withRow (now (d .entry)) to 2 (λ (x : ℕ). oneAt (now (s .entry)) (at + x) o t) ⌝ }
+{
+    let v0 = one_at(s, at, o, t);
+    let v1 = one_at(s, at + 1, o, t);
+    d[to] = v0;
+    d[to + 1] = v1;
+}
+
+fn one_row(s: &[u16], at: usize, n: usize, o: Offsets, t: Taps, d: &mut [u16], to: usize)
+    requires { ⌜ (at + n + o .p1 ≤ length (now s)) × (to + n ≤ length (now d)) × (isRowWidth n ≡ true) × Ordered o × Small t ⌝ }
+    requires { ⌜ ((x : ℕ) → x < n → Bounded 1023 (now s) (at + x) o) ⌝ }
+    ensures { λ _. ⌜ now (d .exit) ≡ withRow (now (d .entry)) to n (λ (x : ℕ). oneAt (now (s .entry)) (at + x) o t) ⌝ }
+{
+    if n == 4 {
+        one_quad(s, at, o, t, d, to);
+        return;
+    }
+    if n == 2 {
+        one_pair(s, at, o, t, d, to);
+        return;
+    }
+    let mut x = 0;
+    while x + 8 <= n {
+        one_oct(s, at + x, o, t, d, to + x);
+        x += 8;
+    }
+}
+
+// `one` is 1: a step that the optimizer does not know keeps it from widening the loop over rows (three times slower).
+fn one_block(
+    s: &[u16],
+    at: usize,
+    stride: usize,
+    n: usize,
+    h: usize,
+    o: Offsets,
+    t: Taps,
+    d: &mut [u16],
+    to: usize,
+    width: usize,
+    one: usize,
+)
+    requires { ⌜ (at + h * stride + n + o .p1 ≤ length (now s) + stride) × (to + h * width + n ≤ length (now d) + width) × (isRowWidth n ≡ true) × Ordered o × Small t ⌝ }
+    requires { ⌜ ((y x : ℕ) → y < h → x < n → Bounded 1023 (now s) (at + y * stride + x) o) ⌝ }
+    requires { ⌜ one ≡ 1 ⌝ }
+    ensures { λ _. ⌜ now (d .exit) ≡ withBlock (now (d .entry)) to width n h (λ (y x : ℕ). oneAt (now (s .entry)) (at + y * stride + x) o t) ⌝ }
+{
+    let mut y = 0;
+    while y < h {
+        one_row(s, at + y * stride, n, o, t, d, to + y * width);
+        y += one;
+    }
+}
+
+fn split_oct(s: &[u16], at: usize, o: Offsets, t: Taps, d: &mut [u16], to: usize)
+    requires { ⌜ (at + 8 + o .p1 ≤ length (now s)) × (to + 8 ≤ length (now d)) × Ordered o × Small t ⌝ }
+    requires { ⌜ ((x : ℕ) → x < 8 → Bounded 26603 (now s) (at + x) o) ⌝ }
+    ensures { λ _. ⌜ now (d .exit) ≡ withRow (now (d .entry)) to 8 (λ (x : ℕ). splitAt (now (s .entry)) (at + x) o t) ⌝ }
+{
+    let v0 = split_at(s, at, o, t);
+    let v1 = split_at(s, at + 1, o, t);
+    let v2 = split_at(s, at + 2, o, t);
+    let v3 = split_at(s, at + 3, o, t);
+    let v4 = split_at(s, at + 4, o, t);
+    let v5 = split_at(s, at + 5, o, t);
+    let v6 = split_at(s, at + 6, o, t);
+    let v7 = split_at(s, at + 7, o, t);
+    d[to] = v0;
+    d[to + 1] = v1;
+    d[to + 2] = v2;
+    d[to + 3] = v3;
+    d[to + 4] = v4;
+    d[to + 5] = v5;
+    d[to + 6] = v6;
+    d[to + 7] = v7;
+}
+
+fn split_quad(s: &[u16], at: usize, o: Offsets, t: Taps, d: &mut [u16], to: usize)
+    requires { ⌜ (at + 4 + o .p1 ≤ length (now s)) × (to + 4 ≤ length (now d)) × Ordered o × Small t ⌝ }
+    requires { ⌜ ((x : ℕ) → x < 4 → Bounded 26603 (now s) (at + x) o) ⌝ }
+    ensures { λ _. ⌜ now (d .exit) ≡ withRow (now (d .entry)) to 4 (λ (x : ℕ). splitAt (now (s .entry)) (at + x) o t) ⌝ }
+{
+    let v0 = split_at(s, at, o, t);
+    let v1 = split_at(s, at + 1, o, t);
+    let v2 = split_at(s, at + 2, o, t);
+    let v3 = split_at(s, at + 3, o, t);
+    d[to] = v0;
+    d[to + 1] = v1;
+    d[to + 2] = v2;
+    d[to + 3] = v3;
+}
+
+fn split_pair(s: &[u16], at: usize, o: Offsets, t: Taps, d: &mut [u16], to: usize)
+    requires { ⌜ (at + 2 + o .p1 ≤ length (now s)) × (to + 2 ≤ length (now d)) × Ordered o × Small t ⌝ }
+    requires { ⌜ ((x : ℕ) → x < 2 → Bounded 26603 (now s) (at + x) o) ⌝ }
+    ensures { λ _. ⌜ now (d .exit) ≡ withRow (now (d .entry)) to 2 (λ (x : ℕ). splitAt (now (s .entry)) (at + x) o t) ⌝ }
+{
+    let v0 = split_at(s, at, o, t);
+    let v1 = split_at(s, at + 1, o, t);
+    d[to] = v0;
+    d[to + 1] = v1;
+}
+
+fn split_row(s: &[u16], at: usize, n: usize, o: Offsets, t: Taps, d: &mut [u16], to: usize)
+    requires { ⌜ (at + n + o .p1 ≤ length (now s)) × (to + n ≤ length (now d)) × (isRowWidth n ≡ true) × Ordered o × Small t ⌝ }
+    requires { ⌜ ((x : ℕ) → x < n → Bounded 26603 (now s) (at + x) o) ⌝ }
+    ensures { λ _. ⌜ now (d .exit) ≡ withRow (now (d .entry)) to n (λ (x : ℕ). splitAt (now (s .entry)) (at + x) o t) ⌝ }
+{
+    if n == 4 {
+        split_quad(s, at, o, t, d, to);
+        return;
+    }
+    if n == 2 {
+        split_pair(s, at, o, t, d, to);
+        return;
+    }
+    let mut x = 0;
+    while x + 8 <= n {
+        split_oct(s, at + x, o, t, d, to + x);
+        x += 8;
+    }
+}
+
+// `one` is 1: a step that the optimizer does not know keeps it from widening the loop over rows (three times slower).
+fn split_block(
+    s: &[u16],
+    at: usize,
+    stride: usize,
+    n: usize,
+    h: usize,
+    o: Offsets,
+    t: Taps,
+    d: &mut [u16],
+    to: usize,
+    width: usize,
+    one: usize,
+)
+    requires { ⌜ (at + h * stride + n + o .p1 ≤ length (now s) + stride) × (to + h * width + n ≤ length (now d) + width) × (isRowWidth n ≡ true) × Ordered o × Small t ⌝ }
+    requires { ⌜ ((y x : ℕ) → y < h → x < n → Bounded 26603 (now s) (at + y * stride + x) o) ⌝ }
+    requires { ⌜ one ≡ 1 ⌝ }
+    ensures { λ _. ⌜ now (d .exit) ≡ withBlock (now (d .entry)) to width n h (λ (y x : ℕ). splitAt (now (s .entry)) (at + y * stride + x) o t) ⌝ }
+{
+    let mut y = 0;
+    while y < h {
+        split_row(s, at + y * stride, n, o, t, d, to + y * width);
+        y += one;
+    }
+}
