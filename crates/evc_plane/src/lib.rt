@@ -79,6 +79,15 @@ pub fn plane_config(t: PlaneType, pic_w: u32, pic_h: u32) -> PlaneConfig
     }
 }
 
+// The length that a plane's buffer needs.
+pub fn plane_len(t: PlaneType, pic_w: u32, pic_h: u32) -> usize
+    requires { ⌜ badPicture «pic_w» «pic_h» ≡ false ⌝ }
+    ensures { λ r. ⌜ r ≡ planeLen t «pic_w» «pic_h» ⌝ }
+{
+    let c = plane_config(t, pic_w, pic_h);
+    c.stride * c.alloc_height
+}
+
 // ---- the examined samples
 
 // The test at a sample: above 1023 exactly if a bit from 10 up is set, so samples are gathered by an OR.
@@ -225,10 +234,10 @@ fn pad_code(t: PlaneType, pic_w: u32, pic_h: u32, plane: &[u16]) -> u32
     if evc_def::bad_picture(pic_w, pic_h) {
         return 1;
     }
-    let c = plane_config(t, pic_w, pic_h);
-    if plane.len() < c.stride * c.alloc_height {
+    if plane.len() < plane_len(t, pic_w, pic_h) {
         return 4;
     }
+    let c = plane_config(t, pic_w, pic_h);
     if exceeds(
         plane,
         c.yorigin * c.stride + c.xorigin,
