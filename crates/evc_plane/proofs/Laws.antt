@@ -2,7 +2,7 @@
 -- the padded reference picture, also through a clamped window; twice is once; equal pictures give equal planes; mirrors. Assumes nothing.
 use mathlib.Core.Bool.{Bool, true, false, cond}
 use mathlib.Core.List.{List}
-use mathlib.Core.Path.{_≡_, refl, sym, ap, ap₂, _∙_}
+use mathlib.Core.Path.{_≡_, sym, ap, ap₂, _∙_}
 use Prim.Native.Nat.{ℕ, _+_, _-_, _*_, _≤_, _<_, min}
 use native.Mathlib.Omega.{arith}
 use native.Mathlib.Nat.{le-refl, mul-le-mul-right}
@@ -10,10 +10,9 @@ use lib.IntN.{ℤ, pos, _+ℤ_}
 use lib.ListN.{length, getD}
 use lib.Signed.{ltZ}
 use borrow.Author.Tests.{ltb-false, le-ltb}
-use Rattle.evc_int.specs.Lists.{withBlock}
 use Rattle.evc_int.specs.Whole.{−_, _⁺, _⁻, clip3}
 use Rattle.evc_int.proofs.Whole.{Tested, under, not-under}
-use Rattle.evc_int.proofs.Expressions.{ !, _⊕_, _⊖_, neg, fact, part⁺, tested-ex}
+use Rattle.evc_int.proofs.Expressions.{ !, _⊕_, neg, fact, part⁺, tested-ex}
 use Rattle.evc_int.proofs.Lists.{length-withBlock, withBlock-in, withBlock-past}
 use Rattle.evc_def.specs.Blocks.{badPicture}
 use Rattle.evc_def.proofs.Codes.{accepted, passed, none}

@@ -4,7 +4,6 @@ use mathlib.Core.Bool.{Bool, true, false}
 use mathlib.Core.List.{List}
 use Prim.Native.Nat.{ℕ, _+_, _*_, _≤_, _<_}
 use native.Mathlib.Omega.{arith}
-use lib.Dec.{ltb}
 use lib.ListN.{length}
 use denote.Ref.{now}
 use borrow.Author.Needs.{needs}
@@ -16,7 +15,7 @@ use Rattle.evc_plane.specs.declared.PlaneConfig.{PlaneConfig}
 use Rattle.evc_plane.specs.Planes.{sideOf, strideOf, planeLen, firstSample, configOf}
 use Rattle.evc_plane.specs.Samples.{exceeds}
 use Rattle.evc_plane.specs.Padding.{padCode}
-use Rattle.evc_plane.proofs.Sizes.{Sizes, sizes-of, Rows, rows, plane-len}
+use Rattle.evc_plane.proofs.Sizes.{Room, room}
 use Rattle.evc_plane.proofs.pad_code.Statement.{statement}
 use Rattle.evc_plane.proofs.pad_code.Tie as tie
 
@@ -71,16 +70,8 @@ returns-4 c =
     let r = configured (c .before) in
     code-0 _ _ _ _ (picture-good (r .before .before .before)) (long (r .before)) _ (r .plane-config .ensures) _ (c .before .exceeds .ensures) (c .if3 .left)
 
--- what holds of the sizes, and that the plane has room for them
-record Known (c : tie.After-plane-config) : Type 0 where
-  pub sized : Sizes (c .plane-config .result)
-  pub products : Rows (c .plane-config .result)
-  pub room : c .plane-config .result .stride * c .plane-config .result .«alloc_height» ≤ length (start (c .before) .args .plane .now)
-
-known : (c : tie.After-plane-config) → Known c
-known c =
-    let z = sizes-of _ _ _ _ (c .plane-config .ensures) (picture-good (c .before .before .before)) in
-    record { sized = z; products = rows _ z; room = omega (arith, plane-len _ _ _ _ (c .plane-config .ensures), long (c .before)) }
+known : (c : tie.After-plane-config) → Room (c .plane-config .result) (length (start (c .before) .args .plane .now))
+known c = room _ _ _ _ _ (c .plane-config .ensures) (picture-good (c .before .before .before)) (long (c .before))
 
 pub pad-code-spec : {M : Type 1} → statement M
 pad-code-spec =
