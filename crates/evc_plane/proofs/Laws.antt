@@ -2,7 +2,7 @@
 -- the padded reference picture, also through a clamped window; twice is once; equal pictures give equal planes; mirrors. Assumes nothing.
 use mathlib.Core.Bool.{Bool, true, false, cond}
 use mathlib.Core.List.{List}
-use mathlib.Core.Path.{_≡_, refl, sym, ap, ap₂, _∙_}
+use mathlib.Core.Path.{_≡_, sym, ap, ap₂, _∙_}
 use Prim.Native.Nat.{ℕ, _+_, _-_, _*_, _≤_, _<_, min}
 use native.Mathlib.Omega.{arith}
 use native.Mathlib.Nat.{le-refl, mul-le-mul-right}
@@ -10,15 +10,14 @@ use lib.IntN.{ℤ, pos, _+ℤ_}
 use lib.ListN.{length, getD}
 use lib.Signed.{ltZ}
 use borrow.Author.Tests.{ltb-false, le-ltb}
-use Rattle.evc_int.specs.Lists.{withBlock}
 use Rattle.evc_int.specs.Whole.{−_, _⁺, _⁻, clip3}
 use Rattle.evc_int.proofs.Whole.{Tested, under, not-under}
-use Rattle.evc_int.proofs.Expressions.{ !, _⊕_, _⊖_, neg, fact, part⁺, tested-ex}
+use Rattle.evc_int.proofs.Expressions.{ !, _⊕_, neg, fact, part⁺, tested-ex}
 use Rattle.evc_int.proofs.Lists.{length-withBlock, withBlock-in, withBlock-past}
 use Rattle.evc_def.specs.Blocks.{badPicture}
 use Rattle.evc_def.proofs.Codes.{accepted, passed, none}
 use Rattle.evc_plane.specs.declared.PlaneType.{PlaneType}
-use Rattle.evc_plane.specs.Planes.{sideOf, padOf, originOf, strideOf, rowsOf, planeLen, configOf, firstSample, sampleAt, reference, startAt, windowStart}
+use Rattle.evc_plane.specs.Planes.{sideOf, padOf, originOf, strideOf, rowsOf, planeLen, configOf, firstSample, storedAt, sampleAt, reference, referenceOf, startAt, windowStart}
 use Rattle.evc_plane.specs.Samples.{exceeds}
 use Rattle.evc_plane.specs.Padding.{paddedAt, padded, padCode, padAfter}
 use Rattle.evc_plane.proofs.Rows.{rows-ext}
@@ -77,6 +76,23 @@ module _ (origin size : ℕ) (z : ℤ) where
 
 -- ---- the padded plane
 
+-- the position (i, j), counted from the picture's first sample, is stored in column x of row y
+pub record Stored (k : PlaneType) (W H : ℕ) (i j : ℤ) (x y : ℕ) : Type 0 where
+  pub column : i +ℤ pos (originOf k) ≡ pos x
+  pub row : j +ℤ pos (padOf k) ≡ pos y
+  pub column-in : x < strideOf k W
+  pub row-in : y < rowsOf k H
+
+-- the picture in t is the one in s, or its mirror
+abbrev pub SamePicture : PlaneType → ℕ → ℕ → List ℕ → List ℕ → Type 0
+SamePicture k W H s t = (i j : ℕ) → i < sideOf k W → j < sideOf k H → sampleAt k W t i j ≡ sampleAt k W s i j
+
+abbrev pub LeftRight : PlaneType → ℕ → ℕ → List ℕ → List ℕ → Type 0
+LeftRight k W H s t = (i i′ j : ℕ) → i + i′ + 1 ≡ sideOf k W → j < sideOf k H → sampleAt k W t i j ≡ sampleAt k W s i′ j
+
+abbrev pub TopBottom : PlaneType → ℕ → ℕ → List ℕ → List ℕ → Type 0
+TopBottom k W H s t = (i j j′ : ℕ) → i < sideOf k W → j + j′ + 1 ≡ sideOf k H → sampleAt k W t i j ≡ sampleAt k W s i j′
+
 module _ (k : PlaneType) (W H : ℕ) (good : badPicture W H ≡ false) where
   known : Sizes (configOf k W H)
   known = sizes k W H good
@@ -97,9 +113,9 @@ module _ (k : PlaneType) (W H : ℕ) (good : badPicture W H ≡ false) where
       let z = known in
       let S = strideOf k W in
       let a = start-range (originOf k) (sideOf k W) zx in
-      let y = startAt (padOf k) (sideOf k H) zy in
-      let b : y + h ≤ rowsOf k H = (let b = start-range (padOf k) (sideOf k H) zy in omega arith) in
-      let m = mul-le-mul-right S b in
+      let b = start-range (padOf k) (sideOf k H) zy in
+      let l : startAt (padOf k) (sideOf k H) zy + h ≤ rowsOf k H = omega arith in
+      let m = mul-le-mul-right S l in
       omega arith
 
   module _ (s : List ℕ) (long : planeLen k W H ≤ length s) where
@@ -107,9 +123,9 @@ module _ (k : PlaneType) (W H : ℕ) (good : badPicture W H ≡ false) where
     unfolding padded
     padded-length = length-withBlock s 0 (strideOf k W) (strideOf k W) (rowsOf k H) (paddedAt k W H s)
 
-    pub padded-stored : (y x : ℕ) → y < rowsOf k H → x < strideOf k W → getD (padded k W H s) (y * strideOf k W + x) 0 ≡ paddedAt k W H s y x
+    pub padded-stored : (x y : ℕ) → x < strideOf k W → y < rowsOf k H → storedAt k W (padded k W H s) x y ≡ paddedAt k W H s y x
     unfolding padded
-    padded-stored y x ly lx =
+    padded-stored x y lx ly =
         let S = strideOf k W in
         let e : y * S + x ≡ 0 + y * S + x = omega arith in
         ap (λ (i : ℕ). getD (padded k W H s) i 0) e ∙ withBlock-in 0 s 0 S S (rowsOf k H) (paddedAt k W H s) y x ly lx (le-refl S) (omega arith)
@@ -119,22 +135,24 @@ module _ (k : PlaneType) (W H : ℕ) (good : badPicture W H ≡ false) where
     unfolding padded
     padded-past i b = withBlock-past 0 s 0 (strideOf k W) (strideOf k W) (rowsOf k H) (paddedAt k W H s) i (le-refl (strideOf k W)) (omega arith)
 
-    -- picture samples stay
-    pub picture-kept : (i j : ℕ) → i < sideOf k W → j < sideOf k H → sampleAt k W (padded k W H s) i j ≡ sampleAt k W s i j
+    -- the picture stays
+    pub picture-kept : SamePicture k W H s (padded k W H s)
     unfolding configOf
     picture-kept i j li lj =
         let z = known in
         let a : min (originOf k + i - originOf k) (sideOf k W - 1) ≡ i = omega arith in
         let b : min (padOf k + j - padOf k) (sideOf k H - 1) ≡ j = omega arith in
-        padded-stored (padOf k + j) (originOf k + i) (omega arith) (omega arith) ∙ ap₂ (sampleAt k W s) a b
+        padded-stored (originOf k + i) (padOf k + j) (omega arith) (omega arith) ∙ ap₂ (sampleAt k W s) a b
 
-    -- the bridge to demand 3: the stored sample of every position from the first stored column and row to the last is the padded reference picture's
-    pub reads-reference : (i j : ℤ) (x y : ℕ) → i +ℤ pos (originOf k) ≡ pos x → j +ℤ pos (padOf k) ≡ pos y → x < strideOf k W → y < rowsOf k H → getD (padded k W H s) (y * strideOf k W + x) 0 ≡ reference (sampleAt k W s) (sideOf k W) (sideOf k H) i j
-    reads-reference i j x y e f lx ly =
-        padded-stored y x ly lx ∙ sym (reference-stored (sampleAt k W s) (sideOf k W) (sideOf k H) (originOf k) (padOf k) x y i j e f)
+    -- the bridge to demand 3: what is stored for a position, from the first column and row of the buffer to the last, is the padded reference
+    -- picture's sample there
+    pub reads-reference : (i j : ℤ) (x y : ℕ) → Stored k W H i j x y → storedAt k W (padded k W H s) x y ≡ referenceOf k W H s i j
+    reads-reference i j x y at =
+        padded-stored x y (at .column-in) (at .row-in)
+        ∙ sym (reference-stored (sampleAt k W s) (sideOf k W) (sideOf k H) (originOf k) (padOf k) x y i j (at .column) (at .row))
 
     -- the same for column c and row r of a clamped window: it reads what stands at the start before it was clamped
-    pub window-reads-reference : (zx zy : ℤ) (c r : ℕ) → c < padOf k → r < padOf k → getD (padded k W H s) (windowStart k W H zx zy + r * strideOf k W + c) 0 ≡ reference (sampleAt k W s) (sideOf k W) (sideOf k H) (zx +ℤ pos c) (zy +ℤ pos r)
+    pub window-reads-reference : (zx zy : ℤ) (c r : ℕ) → c < padOf k → r < padOf k → getD (padded k W H s) (windowStart k W H zx zy + r * strideOf k W + c) 0 ≡ referenceOf k W H s (zx +ℤ pos c) (zy +ℤ pos r)
     unfolding configOf reference windowStart
     window-reads-reference zx zy c r lc lr =
         let z = known in
@@ -142,41 +160,40 @@ module _ (k : PlaneType) (W H : ℕ) (good : badPicture W H ≡ false) where
         let x = startAt (originOf k) (sideOf k W) zx in
         let y = startAt (padOf k) (sideOf k H) zy in
         let e : y * strideOf k W + x + r * strideOf k W + c ≡ (y + r) * strideOf k W + (x + c) = omega arith in
-        ap (λ (i : ℕ). getD (padded k W H s) i 0) e ∙ padded-stored (y + r) (x + c) (w .1) (w .0)
+        ap (λ (i : ℕ). getD (padded k W H s) i 0) e ∙ padded-stored (x + c) (y + r) (w .0) (w .1)
         ∙ ap₂ (sampleAt k W s) (start-column (originOf k) (sideOf k W) zx c (omega arith)) (start-column (padOf k) (sideOf k H) zy r (omega arith))
 
-  -- two planes that agree in the picture agree everywhere in the stored rows after it
-  pub agree : (s t : List ℕ) → planeLen k W H ≤ length s → planeLen k W H ≤ length t → ((i j : ℕ) → i < sideOf k W → j < sideOf k H → sampleAt k W s i j ≡ sampleAt k W t i j) → (y x : ℕ) → y < rowsOf k H → x < strideOf k W → getD (padded k W H s) (y * strideOf k W + x) 0 ≡ getD (padded k W H t) (y * strideOf k W + x) 0
-  unfolding configOf
-  agree s t a b h y x ly lx =
-      let z = known in
-      padded-stored s a y x ly lx
-      ∙ h (min (x - originOf k) (sideOf k W - 1)) (min (y - padOf k) (sideOf k H - 1)) (omega arith) (omega arith)
-      ∙ sym (padded-stored t b y x ly lx)
+  module _ (s t : List ℕ) (long : planeLen k W H ≤ length t) where
+    -- two planes that agree in the picture agree everywhere in the stored rows after it
+    pub agree : planeLen k W H ≤ length s → SamePicture k W H s t → (x y : ℕ) → x < strideOf k W → y < rowsOf k H → storedAt k W (padded k W H t) x y ≡ storedAt k W (padded k W H s) x y
+    unfolding configOf
+    agree a h x y lx ly =
+        let z = known in
+        padded-stored t long x y lx ly
+        ∙ h (min (x - originOf k) (sideOf k W - 1)) (min (y - padOf k) (sideOf k H - 1)) (omega arith) (omega arith)
+        ∙ sym (padded-stored s a x y lx ly)
+
+    -- the mirror of a picture, padded, reads as the mirrored padded reference picture
+    pub mirrored-left-right : LeftRight k W H s t → (i i′ j : ℤ) (x y : ℕ) → i +ℤ i′ +ℤ pos 1 ≡ pos (sideOf k W) → Stored k W H i j x y → storedAt k W (padded k W H t) x y ≡ referenceOf k W H s i′ j
+    unfolding configOf
+    mirrored-left-right h i i′ j x y m at =
+        let z = known in
+        reads-reference t long i j x y at
+        ∙ reference-left-right (sampleAt k W s) (sideOf k W) (sideOf k H) (sampleAt k W t) (omega arith) (omega arith) h i i′ j m
+
+    pub mirrored-top-bottom : TopBottom k W H s t → (i j j′ : ℤ) (x y : ℕ) → j +ℤ j′ +ℤ pos 1 ≡ pos (sideOf k H) → Stored k W H i j x y → storedAt k W (padded k W H t) x y ≡ referenceOf k W H s i j′
+    unfolding configOf
+    mirrored-top-bottom h i j j′ x y m at =
+        let z = known in
+        reads-reference t long i j x y at
+        ∙ reference-top-bottom (sampleAt k W s) (sideOf k W) (sideOf k H) (sampleAt k W t) (omega arith) (omega arith) h i j j′ m
 
   -- padding twice is padding once
   pub padded-twice : (s : List ℕ) → planeLen k W H ≤ length s → padded k W H (padded k W H s) ≡ padded k W H s
   padded-twice s a =
       let p = padded k W H s in
       let b : planeLen k W H ≤ length p = omega (arith, padded-length s a) in
-      rows-ext (strideOf k W) (rowsOf k H) (padded k W H p) p (padded-length p b) (agree p s b a (picture-kept s a)) (λ i l. padded-past p b i (omega arith))
-
-  -- ---- mirrors: the padded plane of a mirrored picture reads as the mirrored padded reference picture
-
-  module _ (s t : List ℕ) (long : planeLen k W H ≤ length t) where
-    pub mirrored-left-right : ((i i′ j : ℕ) → i + i′ + 1 ≡ sideOf k W → j < sideOf k H → sampleAt k W t i j ≡ sampleAt k W s i′ j) → (i i′ j : ℤ) (x y : ℕ) → i +ℤ i′ +ℤ pos 1 ≡ pos (sideOf k W) → i +ℤ pos (originOf k) ≡ pos x → j +ℤ pos (padOf k) ≡ pos y → x < strideOf k W → y < rowsOf k H → getD (padded k W H t) (y * strideOf k W + x) 0 ≡ reference (sampleAt k W s) (sideOf k W) (sideOf k H) i′ j
-    unfolding configOf
-    mirrored-left-right h i i′ j x y m e f lx ly =
-        let z = known in
-        reads-reference t long i j x y e f lx ly
-        ∙ reference-left-right (sampleAt k W s) (sideOf k W) (sideOf k H) (sampleAt k W t) (omega arith) (omega arith) h i i′ j m
-
-    pub mirrored-top-bottom : ((i j j′ : ℕ) → i < sideOf k W → j + j′ + 1 ≡ sideOf k H → sampleAt k W t i j ≡ sampleAt k W s i j′) → (i j j′ : ℤ) (x y : ℕ) → j +ℤ j′ +ℤ pos 1 ≡ pos (sideOf k H) → i +ℤ pos (originOf k) ≡ pos x → j +ℤ pos (padOf k) ≡ pos y → x < strideOf k W → y < rowsOf k H → getD (padded k W H t) (y * strideOf k W + x) 0 ≡ reference (sampleAt k W s) (sideOf k W) (sideOf k H) i j′
-    unfolding configOf
-    mirrored-top-bottom h i j j′ x y m e f lx ly =
-        let z = known in
-        reads-reference t long i j x y e f lx ly
-        ∙ reference-top-bottom (sampleAt k W s) (sideOf k W) (sideOf k H) (sampleAt k W t) (omega arith) (omega arith) h i j j′ m
+      rows-ext (strideOf k W) (rowsOf k H) (padded k W H p) p (padded-length p b) (λ y x ly lx. agree s p b a (picture-kept s a) x y lx ly) (λ i l. padded-past p b i (omega arith))
 
 -- ---- the call
 
@@ -195,18 +212,17 @@ module _ (k : PlaneType) (W H : ℕ) (s : List ℕ) (done : padCode k W H s ≡ 
       (f .0, ltb-false (length s) (planeLen k W H) (g .0), h .0)
 
   -- every stored sample is at most 1023, so that no window of the padded plane is refused with 6
-  pub stored-small : (y x : ℕ) → y < rowsOf k H → x < strideOf k W → getD (padded k W H s) (y * strideOf k W + x) 0 ≤ 1023
+  pub stored-small : (x y : ℕ) → x < strideOf k W → y < rowsOf k H → storedAt k W (padded k W H s) x y ≤ 1023
   unfolding configOf
-  stored-small y x ly lx =
+  stored-small x y lx ly =
       let a = accepts in
       let z = sizes k W H (a .0) in
       let i = min (x - originOf k) (sideOf k W - 1) in
       let j = min (y - padOf k) (sideOf k H - 1) in
       let e : padOf k * strideOf k W + originOf k + j * strideOf k W + i ≡ (padOf k + j) * strideOf k W + (originOf k + i) = omega arith in
-      let n : getD s ((padOf k + j) * strideOf k W + (originOf k + i)) 0 ≤ 1023 = rw (sym e) (exceeds-none s (firstSample k W) (strideOf k W) (sideOf k W) (sideOf k H) (a .2) j i (omega arith) (omega arith)) in
-      omega (arith, padded-stored k W H (a .0) s (a .1) y x ly lx, n)
+      let n : sampleAt k W s i j ≤ 1023 = rw (sym e) (exceeds-none s (firstSample k W) (strideOf k W) (sideOf k W) (sideOf k H) (a .2) j i (omega arith) (omega arith)) in
+      omega (arith, padded-stored k W H (a .0) s (a .1) x y lx ly, n)
 
-  -- a plane that was padded is accepted again, and stays as it is
   again : padCode k W H (padded k W H s) ≡ 0
   unfolding padCode configOf
   again =
@@ -217,9 +233,10 @@ module _ (k : PlaneType) (W H : ℕ) (s : List ℕ) (done : padCode k W H s ≡ 
       ∙ passed _ _ _
       (none-exceeds (padded k W H s) (firstSample k W) S (sideOf k W) (sideOf k H) (λ y x ly lx.
       let e : (padOf k + y) * S + (originOf k + x) ≡ padOf k * S + originOf k + y * S + x = omega arith in
-      rw (sym e) (stored-small (padOf k + y) (originOf k + x) (omega arith) (omega arith))))
+      rw (sym e) (stored-small (originOf k + x) (padOf k + y) (omega arith) (omega arith))))
       ∙ none
 
+  -- a plane that was padded is accepted again, and stays as it is
   pub pad-twice : (padCode k W H (padAfter k W H s) ≡ 0) × (padAfter k W H (padAfter k W H s) ≡ padAfter k W H s)
   pad-twice =
       rw (after k W H s done)

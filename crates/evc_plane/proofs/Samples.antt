@@ -1,8 +1,8 @@
 -- The examined samples: an OR exceeds 1023 exactly if one of the two does, the turns of the walk, and what its answer says of each sample.
 -- Assumes nothing.
-use Prim.Native.Nat.{ℕ, zero, suc, _+_, _*_, _<_, _≤_}
+use Prim.Native.Nat.{ℕ, zero, suc, _+_, _*_, _-_, _<_, _≤_}
 use mathlib.Core.Bool.{Bool, true, false, _||_}
-use mathlib.Core.Path.{_≡_, refl, ap, ap₂, subst, _∙_}
+use mathlib.Core.Path.{_≡_, refl, sym, ap, ap₂, subst, _∙_}
 use mathlib.Core.List.{List}
 use mathlib.Core.Logic.{⊎-elim}
 use native.Mathlib.Omega.{arith}
@@ -28,30 +28,6 @@ or-too-large x y = go (ltb 1023 x) (ltb 1023 y) refl refl
         let h = ltb-false 1023 x p in
         let k = ltb-false 1023 y q in
         le-ltb 1023 (bitOr x y) (let l : bitOr x y < 1024 = or-lt 10 x y (omega arith) (omega arith) in omega arith)
-
--- ---- the walk: its beginning, and one sample or one row more
-
-pub zero-fits : tooLarge 0 ≡ false
-unfolding tooLarge
-zero-fits = refl
-
-module _ (s : List ℕ) (at : ℕ) where
-  pub row-none : tooLarge 0 ≡ rowExceeds s at 0
-  unfolding rowExceeds
-  row-none = zero-fits
-
-  pub row-more : (x o v r : ℕ) → tooLarge o ≡ rowExceeds s at x → v ≡ getD s (at + x) 0 → tooLarge r ≡ tooLarge o || tooLarge v → tooLarge r ≡ rowExceeds s at (x + 1)
-  unfolding rowExceeds
-  row-more x o v r p q e = rw add-one (e ∙ ap₂ (λ (a b : Bool). a || b) p (ap tooLarge q))
-
-  module _ (stride n : ℕ) where
-    pub rows-none : tooLarge 0 ≡ exceeds s at stride n 0
-    unfolding exceeds
-    rows-none = zero-fits
-
-    pub rows-more : (y o v r : ℕ) → tooLarge o ≡ exceeds s at stride n y → tooLarge v ≡ rowExceeds s (at + y * stride) n → tooLarge r ≡ tooLarge o || tooLarge v → tooLarge r ≡ exceeds s at stride n (y + 1)
-    unfolding exceeds
-    rows-more y o v r p q e = rw add-one (e ∙ ap₂ (λ (a b : Bool). a || b) p q)
 
 -- ---- what the answer says of each sample
 
@@ -90,3 +66,68 @@ unfolding exceeds
 none-exceeds s at stride n zero q = refl
 none-exceeds s at stride n (suc h) q =
     ap₂ (λ (a b : Bool). a || b) (none-exceeds s at stride n h (λ y x ly lx. q y x (omega arith) lx)) (row-all-small s (at + h * stride) n (λ x lx. q h x (omega arith) lx))
+
+-- ---- the walk: its beginning, and one sample of both ends or one row more
+
+pub zero-fits : tooLarge 0 ≡ false
+unfolding tooLarge
+zero-fits = refl
+
+same-answer : (a b : Bool) → (a ≡ false → b ≡ false) → (b ≡ false → a ≡ false) → a ≡ b
+same-answer true true f g = refl
+same-answer true false f g = g refl
+same-answer false b f g = sym (f refl)
+
+module _ (s : List ℕ) (at : ℕ) where
+  -- the first x of a row, and x from `last` on
+  abbrev pub endsExceed : ℕ → ℕ → Bool
+  endsExceed last x = rowExceeds s at x || rowExceeds s last x
+
+  pub ends-none : (last : ℕ) → tooLarge 0 ≡ endsExceed last 0
+  unfolding rowExceeds
+  ends-none last = zero-fits
+
+  pub ends-more : (last x o p q : ℕ) → tooLarge o ≡ endsExceed last x → tooLarge p ≡ tooLarge o || tooLarge (getD s (at + x) 0) → tooLarge q ≡ tooLarge p || tooLarge (getD s (last + x) 0) → tooLarge q ≡ endsExceed last (x + 1)
+  unfolding rowExceeds
+  ends-more last x o p q h i j =
+      let v = tooLarge (getD s (at + x) 0) in
+      let w = tooLarge (getD s (last + x) 0) in
+      rw add-one (j ∙ ap (λ (b : Bool). b || w) (i ∙ ap (λ (b : Bool). b || v) h) ∙ turned (rowExceeds s at x) (rowExceeds s last x) v w)
+    where
+      turned : (a b v w : Bool) → ((a || b) || v) || w ≡ (a || v) || (b || w)
+      turned true b v w = refl
+      turned false true true w = refl
+      turned false true false w = refl
+      turned false false v w = refl
+
+  -- the first k and the last k are the whole row
+  pub ends-all : (n k : ℕ) → k ≤ n → n ≤ k + k → endsExceed (at + n - k) k ≡ rowExceeds s at n
+  ends-all n k l m = same-answer (endsExceed (at + n - k) k) (rowExceeds s at n) forth back
+    where
+      forth : endsExceed (at + n - k) k ≡ false → rowExceeds s at n ≡ false
+      forth e =
+          let h = or-none (rowExceeds s at k) (rowExceeds s (at + n - k) k) e in
+          row-all-small s at n (λ x lx. either x (ltb x k) refl lx (h .0) (h .1))
+        where
+          either : (x : ℕ) (t : Bool) → ltb x k ≡ t → x < n → rowExceeds s at k ≡ false → rowExceeds s (at + n - k) k ≡ false → getD s (at + x) 0 ≤ 1023
+          either x true f lx a b = row-small s at k a x (ltb-true x k f)
+          either x false f lx a b =
+              let ge = ltb-false x k f in
+              let i : at + n - k + (x - (n - k)) ≡ at + x = omega arith in
+              rw (sym i) (row-small s (at + n - k) k b (x - (n - k)) (omega arith))
+
+      back : rowExceeds s at n ≡ false → endsExceed (at + n - k) k ≡ false
+      back e =
+          ap₂ (λ (a b : Bool). a || b) (row-all-small s at k (λ x lx. row-small s at n e x (omega arith)))
+          (row-all-small s (at + n - k) k (λ x lx.
+          let i : at + (n - k + x) ≡ at + n - k + x = omega arith in
+          rw (sym i) (row-small s at n e (n - k + x) (omega arith))))
+
+  module _ (stride n : ℕ) where
+    pub rows-none : tooLarge 0 ≡ exceeds s at stride n 0
+    unfolding exceeds
+    rows-none = zero-fits
+
+    pub rows-more : (y o v r : ℕ) → tooLarge o ≡ exceeds s at stride n y → tooLarge v ≡ rowExceeds s (at + y * stride) n → tooLarge r ≡ tooLarge o || tooLarge v → tooLarge r ≡ exceeds s at stride n (y + 1)
+    unfolding exceeds
+    rows-more y o v r p q e = rw add-one (e ∙ ap₂ (λ (a b : Bool). a || b) p q)

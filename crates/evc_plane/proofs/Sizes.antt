@@ -96,3 +96,15 @@ rows c z =
 pub plane-len : (k : PlaneType) (W H : ℕ) (c : PlaneConfig) → c ≡ configOf k W H → c .stride * c .«alloc_height» ≡ planeLen k W H
 unfolding configOf
 plane-len k W H c e = ap (λ (r : PlaneConfig). r .stride * r .«alloc_height») e
+
+-- ---- a plane with room for them
+
+pub record Room (c : PlaneConfig) (n : ℕ) : Type 0 where
+  pub sized : Sizes c
+  pub products : Rows c
+  pub within : c .stride * c .«alloc_height» ≤ n
+
+pub room : (k : PlaneType) (W H : ℕ) (c : PlaneConfig) (n : ℕ) → c ≡ configOf k W H → badPicture W H ≡ false → planeLen k W H ≤ n → Room c n
+room k W H c n e b l =
+    let z = sizes-of k W H c e b in
+    record { sized = z; products = rows c z; within = omega (arith, plane-len k W H c e) }

@@ -55,14 +55,22 @@ configOf k W H =
 abbrev pub firstSample : PlaneType → ℕ → ℕ
 firstSample k W = padOf k * strideOf k W + originOf k
 
--- the picture's sample at column i and row j
+-- the sample in column x of row y of the buffer
+abbrev pub storedAt : PlaneType → ℕ → List ℕ → ℕ → ℕ → ℕ
+storedAt k W s x y = getD s (y * strideOf k W + x) 0
+
+-- the picture's sample in column i of row j
 abbrev pub sampleAt : PlaneType → ℕ → List ℕ → ℕ → ℕ → ℕ
-sampleAt k W s i j = getD s ((padOf k + j) * strideOf k W + (originOf k + i)) 0
+sampleAt k W s i j = storedAt k W s (originOf k + i) (padOf k + j)
 
 -- the padded reference picture ('What demand 3 compares'): "its sample at any whole (i, j) is the picture's at i held to 0..pw - 1 and j held to
 -- 0..ph - 1."
 unfoldable pub reference : (ℕ → ℕ → ℕ) → ℕ → ℕ → ℤ → ℤ → ℕ
 reference pic pw ph i j = pic (min (i ⁺) (pw - 1)) (min (j ⁺) (ph - 1))
+
+-- that of the picture in a buffer
+abbrev pub referenceOf : PlaneType → ℕ → ℕ → List ℕ → ℤ → ℤ → ℕ
+referenceOf k W H s = reference (sampleAt k W s) (sideOf k W) (sideOf k H)
 
 -- "`PlaneSlice::clamp` then holds the start between minus the origin and the plane's size.": in one direction
 abbrev pub clampStart : ℕ → ℕ → ℤ → ℤ

@@ -34,6 +34,7 @@ mod picman {
 mod plane {
     include!("../revc/src/plane.rs");
     use crate::standins::frame::*;
+    pub mod calls;
 }
 mod tbl {
     include!("../revc/src/tbl.rs");
@@ -44,3 +45,4 @@ mod util {
 
 pub mod cases;
 pub use mc::calls::mv_clip;
+pub use plane::calls::{pad, plane_config};

@@ -3,13 +3,13 @@ use mathlib.Core.Path.{_≡_, ap, _∙_}
 use Prim.Native.Nat.{ℕ, _+_, _≤_, _<_}
 use native.Mathlib.Omega.{arith}
 use borrow.Author.Needs.{needs}
-use lib.IntN.{ℤ, pos, natAbs, _+ℤ_, _-ℤ_}
+use lib.IntN.{ℤ, pos, natAbs, _+ℤ_}
 use mir.Syntax.{w32}
 use mir.Val.{SFits, toZ, ofZ}
 use Rattle.evc_int.specs.Whole.{−_, _⁺, _⁻, clip3}
 use Rattle.evc_int.proofs.Whole.{Is, of, nat, is-+, is--, is-neg, parts, abs-of, lt-yes, lt-no, lt-true, lt-false}
 use Rattle.evc_int.proofs.Clipping.{clip3-low, clip3-high, clip3-kept}
-use Rattle.evc_int.proofs.Machine.{arg, uns, is-rd, fit, to-unsigned, signed}
+use Rattle.evc_int.proofs.Machine.{arg, uns, is-rd, fit, to-unsigned}
 use Rattle.evc_plane.specs.Planes.{startAt}
 use Rattle.evc_plane.proofs.clamp.Statement.{statement}
 use Rattle.evc_plane.proofs.clamp.Tie as tie

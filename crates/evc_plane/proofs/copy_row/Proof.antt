@@ -5,7 +5,6 @@ use mathlib.Core.List.{List}
 use mathlib.Core.Logic.{⊎-elim, _⊎_, inl, inr}
 use native.Mathlib.Omega.{arith}
 use lib.ListN.{length, length-set, getD}
-use denote.Ref.{now}
 use Rattle.evc_int.specs.Lists.{withRow}
 use Rattle.evc_int.proofs.Lists.{row-step, row-done, withRow-out}
 use Rattle.evc_plane.proofs.copy_row.Statement.{statement}

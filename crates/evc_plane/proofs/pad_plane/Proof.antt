@@ -1,9 +1,9 @@
 -- `evc_plane::pad_plane` meets its contract: its four steps are those of proofs/Padding. Assumes nothing.
-use mathlib.Core.Path.{_≡_, _∙_, sym, ap}
+use mathlib.Core.Path.{_≡_, _∙_, ap}
 use mathlib.Core.Bool.{false}
 use mathlib.Core.List.{List}
 use mathlib.Core.Logic.{inl, inr}
-use Prim.Native.Nat.{ℕ, _+_, _*_, _≤_, _<_}
+use Prim.Native.Nat.{ℕ, _+_, _≤_}
 use native.Mathlib.Omega.{arith}
 use lib.ListN.{length}
 use borrow.Author.Needs.{needs}
@@ -13,7 +13,7 @@ use Rattle.evc_plane.specs.declared.PlaneType.{PlaneType}
 use Rattle.evc_plane.specs.declared.PlaneConfig.{PlaneConfig}
 use Rattle.evc_plane.specs.Planes.{rowsOf, planeLen, configOf}
 use Rattle.evc_plane.specs.Padding.{padded}
-use Rattle.evc_plane.proofs.Sizes.{Sizes, sizes-of, Rows, rows, plane-len}
+use Rattle.evc_plane.proofs.Sizes.{Room, room}
 use Rattle.evc_plane.proofs.Padding.{filledLeft, filledRight, copiedUp, copiedDown, held, steps-pad}
 use Rattle.evc_plane.proofs.pad_plane.Statement.{statement}
 use Rattle.evc_plane.proofs.pad_plane.Tie as tie
@@ -25,25 +25,16 @@ module _ (k : PlaneType) (W H : ℕ) (c : PlaneConfig) (e : c ≡ configOf k W H
   by-steps : (s l₁ l₂ l₃ l₄ : List ℕ) → badPicture W H ≡ false → planeLen k W H ≤ length s → l₁ ≡ step filledLeft s → l₂ ≡ step filledRight l₁ → l₃ ≡ step copiedUp l₂ → l₄ ≡ step copiedDown l₃ → l₄ ≡ padded k W H s
   unfolding configOf rowsOf padded
   by-steps s l₁ l₂ l₃ l₄ b long e₁ e₂ e₃ e₄ =
-      let z = sizes-of k W H c e b in
-      let r = rows c z in
+      let z = room k W H c (length s) e b long in
       e₄ ∙ ap (step copiedDown) (e₃ ∙ ap (step copiedUp) (e₂ ∙ ap (step filledRight) e₁))
-      ∙ steps-pad (c .yorigin) (c .xorigin) (c .width) (c .height) (c .stride) s (omega arith) (omega arith) (omega arith) (omega arith) (omega (arith, plane-len k W H c e))
+      ∙ steps-pad (c .yorigin) (c .xorigin) (c .width) (c .height) (c .stride) s (omega arith) (omega arith) (omega arith) (omega arith) (omega arith)
       ∙ ap (λ (z : PlaneConfig). withBlock s 0 (z .stride) (z .stride) (z .yorigin + z .height + z .yorigin) (held (z .yorigin) (z .xorigin) (z .width) (z .height) (z .stride) s)) e
 
 abbrev start : tie.After-plane-config → tie.Start
 start c = c .before .before
 
--- what holds of the sizes, and that the plane has room for them
-record Known (c : tie.After-plane-config) : Type 0 where
-  pub sized : Sizes (c .plane-config .result)
-  pub products : Rows (c .plane-config .result)
-  pub long : c .plane-config .result .stride * c .plane-config .result .«alloc_height» ≤ length (start c .args .plane .now)
-
-known : (c : tie.After-plane-config) → Known c
-known c =
-    let z = sizes-of _ _ _ _ (c .plane-config .ensures) (start c .pre .0) in
-    record { sized = z; products = rows _ z; long = omega (arith, plane-len _ _ _ _ (c .plane-config .ensures), start c .pre .1) }
+known : (c : tie.After-plane-config) → Room (c .plane-config .result) (length (start c .args .plane .now))
+known c = room _ _ _ _ _ (c .plane-config .ensures) (start c .pre .0) (start c .pre .1)
 
 -- each step keeps the length
 abbrev first : tie.After-pad-columns-arg2 → tie.After-plane-config

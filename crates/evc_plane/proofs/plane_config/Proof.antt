@@ -4,7 +4,6 @@ use Prim.Native.Nat.{ℕ, _+_, _*_, _/_}
 use native.Mathlib.Omega.{arith}
 use borrow.Author.Needs.{needs}
 use Rattle.evc_plane.specs.declared.PlaneType.{PlaneType}
-use Rattle.evc_plane.specs.declared.PlaneConfig.{PlaneConfig}
 use Rattle.evc_plane.specs.Planes.{padOf, originOf, sideOf, strideOf, rowsOf, configOf}
 use Rattle.evc_plane.proofs.Sizes.{Sizes, sizes}
 use Rattle.evc_plane.proofs.plane_config.Statement.{statement}

@@ -1,26 +1,17 @@
 -- `pad_text::pad_arbitrary` meets its contract. Assumes nothing.
-use Prim.Native.Nat.{ℕ, _+_, _*_, _≤_}
-use mathlib.Core.Path.{_≡_}
 use native.Mathlib.Omega.{arith}
+use native.Mathlib.Nat.{le-refl}
 use borrow.Author.Needs.{needs}
-use lib.ListN.{length}
-use Rattle.evc_plane.proofs.Sizes.{Sizes, sizes-of, Rows, rows, plane-len}
+use Rattle.evc_plane.specs.Planes.{planeLen}
+use Rattle.evc_plane.proofs.Sizes.{Room, room}
 use Rattle.pad_text.proofs.pad_arbitrary.Statement.{statement}
 use Rattle.pad_text.proofs.pad_arbitrary.Tie as tie
 
 abbrev start : tie.After-plane-config → tie.Start
 start c = c .before .before
 
--- what holds of the sizes, and that the plane has room for them
-record Known (c : tie.After-plane-config) : Type 0 where
-  pub sized : Sizes (c .plane-config .result)
-  pub products : Rows (c .plane-config .result)
-  pub long : c .plane-config .result .stride * c .plane-config .result .«alloc_height» + start c .args .r .spare ≤ length (start c .args .plane .now)
-
-known : (c : tie.After-plane-config) → Known c
-known c =
-    let z = sizes-of _ _ _ _ (c .plane-config .ensures) (start c .pre .0) in
-    record { sized = z; products = rows _ z; long = omega (arith, plane-len _ _ _ _ (c .plane-config .ensures), start c .pre .1 .0) }
+known : (c : tie.After-plane-config) → Room (c .plane-config .result) (planeLen (start c .args .t) (start c .args .r .«pic_w») (start c .args .r .«pic_h»))
+known c = room _ _ _ _ _ (c .plane-config .ensures) (start c .pre .0) (le-refl _)
 
 abbrev made : tie.After-struct-known3 → tie.After-plane-config
 made c = c .before .before .before .before .before .before .before .before

@@ -1,7 +1,6 @@
 -- `pad_text::print_rows` meets its contract. Assumes nothing.
 use Prim.Native.Nat.{_+_, _*_, _-_, _≤_}
 use native.Mathlib.Omega.{arith}
-use borrow.Author.Needs.{needs}
 use Rattle.evc_int.proofs.Lists.{row-fits}
 use Rattle.pad_text.proofs.print_rows.Statement.{statement}
 use Rattle.pad_text.proofs.print_rows.Tie as tie

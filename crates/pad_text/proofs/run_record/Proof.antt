@@ -1,5 +1,4 @@
 -- `pad_text::run_record` meets its contract. Assumes nothing.
-use Prim.Native.Nat.{_+_, _*_, _<_, _≤_}
 use mathlib.Core.Bool.{false}
 use mathlib.Core.Path.{_≡_, sym, _∙_}
 use native.Mathlib.Omega.{arith}

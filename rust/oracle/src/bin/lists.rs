@@ -1,6 +1,7 @@
 //! Writes the fixed lists into a directory: inputs, and the answers that the Rust gives.
 
-use oracle::cases::{clip, corners, Component, Rng};
+use oracle::cases::{clip, corners, Component, Padding, Rng};
+use oracle::plane_config;
 use std::fmt::Write;
 use std::path::Path;
 use std::{env, fs, io};
@@ -38,10 +39,62 @@ fn mv_clip_records() -> Vec<[Component; 2]> {
     records
 }
 
-fn main() -> io::Result<()> {
-    let dir = env::args_os().nth(1).expect("usage: lists DIR");
-    let dir = Path::new(&dir);
+/// Records of the padding program: small pictures of every shape, both types.
+fn pad_records() -> Vec<Padding> {
+    let mut rng = Rng(2);
+    let sizes = [
+        (4, 4),
+        (8, 4),
+        (4, 8),
+        (12, 8),
+        (16, 20),
+        (28, 12),
+        (36, 4),
+        (4, 44),
+        (64, 64),
+    ];
+    let mut records = Vec::new();
+    for (pic_w, pic_h) in sizes {
+        for chroma in [false, true] {
+            records.push(Padding {
+                chroma,
+                pic_w,
+                pic_h,
+                spare: [0, 1, 17][rng.below(3)],
+                seed: rng.below(65536) as u16,
+                limit: 1024,
+            });
+        }
+    }
+    records
+}
 
+/// What the padding program prints for a row: a number that depends on each sample and its place.
+fn hash(row: &[u16]) -> u64 {
+    row.iter().fold(1, |z, &x| (z * 257 + u64::from(x)) % 65521)
+}
+
+fn write_pad(dir: &Path) -> io::Result<()> {
+    let mut records = Vec::new();
+    let mut answers = String::new();
+    for r in pad_records() {
+        let [pic_w, pic_h, spare] = [r.pic_w, r.pic_h, r.spare].map(|n| n as u16);
+        for field in [u16::from(r.chroma), pic_w, pic_h, spare, r.seed, r.limit] {
+            records.extend(field.to_le_bytes());
+        }
+        let cfg = plane_config(r.chroma, r.pic_w, r.pic_h);
+        let samples = r.padded();
+        let (rows, spare) = samples.split_at(cfg.stride * cfg.alloc_height);
+        writeln!(answers, "0").unwrap();
+        for row in rows.chunks(cfg.stride).chain([spare]) {
+            writeln!(answers, "{}", hash(row)).unwrap();
+        }
+    }
+    fs::write(dir.join("pad.records"), records)?;
+    fs::write(dir.join("pad.answers"), answers)
+}
+
+fn write_mv_clip(dir: &Path) -> io::Result<()> {
     let mut records = Vec::new();
     let mut answers = String::from("answer mvx mvy\n");
     for [x, y] in mv_clip_records() {
@@ -51,7 +104,14 @@ fn main() -> io::Result<()> {
         let [mvx, mvy] = clip(x, y);
         writeln!(answers, "0 {mvx} {mvy}").unwrap();
     }
-    fs::create_dir_all(dir)?;
     fs::write(dir.join("mv_clip.records"), records)?;
     fs::write(dir.join("mv_clip.answers"), answers)
+}
+
+fn main() -> io::Result<()> {
+    let dir = env::args_os().nth(1).expect("usage: lists DIR");
+    let dir = Path::new(&dir);
+    fs::create_dir_all(dir)?;
+    write_mv_clip(dir)?;
+    write_pad(dir)
 }
