@@ -20,7 +20,7 @@ use ghost.Atoms.{Atoms, sem}
 use contract.Lifetimes.{Lfts, Shares}
 use contract.Monad.{Fun, fact, factI}
 use contract.Running.{givenOf, tables, tablesOf}
-use types.Kit.{Given, Item, ‵, raw, _⊛_, ⋆, some, later, _$_, _∵_, !, qed, by, move, keep, drop, use1, use2, rewrite, split, join, group, pick, fsplit, fsplit3, fjoin, fjoin3, feqI, suffices, frame, await, done}
+use types.Kit.{Given, Item, Goal, prop, Seq, Step, ‵, raw, _⊛_, ⋆, some, later, _$_, _∵_, !, qed, by, move, keep, drop, use1, use2, rewrite, split, join, group, pick, fsplit, fsplit3, fjoin, fjoin3, feqI, suffices, frame, await, done}
 use types.Part.{whole, sub, look-in}
 use types.Run.{look, look-raw, init, store-raw, forget, stop, hop, fld, from, load, of-opd, and-then, no-more, assigns, land, returns, enter, alloc1, alloc0, params1, pass1, pass0, free1, free0}
 use types.SemTy.{Body}
@@ -41,7 +41,7 @@ use denote.Triple.Call.{calls-at}
 use denote.Triple.Entry.{Args, Vals, onEntry}
 use denote.Triple.Spec.{Meets, tripleOf}
 use denote.Triple.Table.{entered, cited}
-use denote.Triple.Walked.{says, Stays, stay-ref, stay-none, stay-none-slice, walkOf, AllGo, goes-none, goes-none-slice, goes-ref, Walks, onExit, ends-at, walked, walk-meets}
+use denote.Triple.Walked.{says, Stays, stay-ref, stay-none, stay-none-slice, walkOf, AllGo, goes-none, goes-none-slice, goes-ref, Walks, ends-at, walked, walk-meets}
 use denote.Triple.Clauses.{ensured, lasts}
 use denote.Exit.{yes}
 use Rattle.evc_def.specs.declared.EvcBlock.{EvcBlock}
@@ -82,9 +82,9 @@ module _ {M : Type 1} (𝓤 : URA M) (H : Heap 𝓤) (A : Atoms 𝓤) (at-mem : 
   abbrev ByValue : Contract 𝓤
   ByValue = tripleOf 𝓤 H A by-value.signature (by-value.spec 𝓤 H A at-mem run)
 
--- the two clauses of the `ensures`, shown beside what is had
-both-said : {M : Type 1} (𝓤 : URA M) (H : Heap 𝓤) (A : Atoms 𝓤) (W : Given 𝓤 H A) (P : SProp 𝓤) (φ ψ : Type 0) → φ → ψ → ent 𝓤 P (sep 𝓤 P (sep 𝓤 (fact 𝓤 φ) (fact 𝓤 ψ)))
-both-said 𝓤 H A W P φ ψ x y = qed W (raw P ∷ []) ∵ frame ! $ says ! y $ by ! (factI 𝓤 φ (emp 𝓤) x)
+-- the two clauses of the `ensures` are shown: `says` for two facts
+says-both : {M : Type 1} {𝓤 : URA M} {H : Heap 𝓤} {A : Atoms 𝓤} {K : Type 0} {W : Given 𝓤 H A} {Γ : List (Item 𝓤)} → K → {φ ψ : Type 0} {P : SProp 𝓤} → φ → ψ → Step K W Γ (prop P) Γ (prop (sep 𝓤 P (sep 𝓤 (fact 𝓤 φ) (fact 𝓤 ψ))))
+says-both {𝓤 = 𝓤} {W = W} t {φ} {ψ} {P} x y = suffices t P (qed W (raw P ∷ []) ∵ frame ! $ says ! y $ by ! (factI 𝓤 φ (emp 𝓤) x))
 
 module _ {M : Type 1} (𝓤 : URA M) (H : Heap 𝓤) (A : Atoms 𝓤) (W : Given 𝓤 H A) (at-mem : Memory → SProp 𝓤) (run : Routine → Fun 𝓤) (κ₀ κ₁ κ₂ : Lft) (q₀ q₁ q₂ : Share)
     (block : EvcBlock) (lidx avail : ℕ) (map : RefT (List ℤ)) (has : Bool) (col : RefT (List ℤ)) (b o : ℕ) (γ : GName) (h : EvcCandidates) where
@@ -95,8 +95,8 @@ module _ {M : Type 1} (𝓤 : URA M) (H : Heap 𝓤) (A : Atoms 𝓤) (W : Given
   qs = (q₀, (q₁, (q₂, tt)))
 
   -- the machine values of the block and of the two maps
-  abbrev vblock : List Val
-  vblock = LL.vals B.the-type B′.the-laws block
+  abbrev vblock : Val
+  vblock = LL.val B.the-type B′.the-laws block
 
   abbrev vmap : Val
   vmap = sliceVal (map .ptr) (length (map .now))
@@ -108,7 +108,7 @@ module _ {M : Type 1} (𝓤 : URA M) (H : Heap 𝓤) (A : Atoms 𝓤) (W : Given
   x = (block, (lidx, (avail, (map, (has, (col, (record { ptr = (b, o); name = γ; now = h }, tt)))))))
 
   abbrev at : Vals lent.signature κs
-  at = (vblock, (vint w32 lidx ∷ [], (vint w16 avail ∷ [], (vmap ∷ [], (vbool has ∷ [], (vcol ∷ [], (vptr b o ∷ [], tt)))))))
+  at = (vblock ∷ [], (vint w32 lidx ∷ [], (vint w16 avail ∷ [], (vmap ∷ [], (vbool has ∷ [], (vcol ∷ [], (vptr b o ∷ [], tt)))))))
 
   abbrev got : Motion
   got = getMotion block lidx avail (now map) has (now col) h
@@ -126,11 +126,19 @@ module _ {M : Type 1} (𝓤 : URA M) (H : Heap 𝓤) (A : Atoms 𝓤) (W : Given
   abbrev Tokens : Item 𝓤
   Tokens = ‵ (flft κ₀ q₀) ⊛ ‵ (flft κ₁ q₁) ⊛ ‵ ftrue
 
-  -- what is had at entry, but for the plain parameters
-  abbrev Held : List (Item 𝓤)
-  Held = ‵ (fobs γ (T.the-row .coded .code h)) ∷ ‵ (fbor κ₂ (Body (mem T.the-row) b o γ)) ∷ ‵ (flft κ₂ q₂) ∷ Tokens ∷ ‵ (fsep Own₀ Own₁) ∷ ‵ (fsep Own₀ Own₁) ∷ []
+  abbrev Maps : Fml
+  Maps = fsep Own₀ Own₁
 
-  apart : ent 𝓤 (onEntry 𝓤 H A lent.signature κs qs x at) (⋆ 𝓤 H A Held)
+  -- what the first six parameters own, before what the rest owns
+  abbrev Six : Fml → Fml
+  Six P = fsep (B.the-row .own block (vblock ∷ [])) (fsep (u32 .own lidx (vint w32 lidx ∷ [])) (fsep (u16 .own avail (vint w16 avail ∷ [])) (fsep Own₀ (fsep (bool .own has (vbool has ∷ [])) (fsep Own₁ P)))))
+
+  -- what is had where the record holds c, but for the plain parameters
+  abbrev Had : EvcCandidates → List (Item 𝓤)
+  Had c = ‵ (fobs γ (T.the-row .coded .code c)) ∷ ‵ (fbor κ₂ (Body (mem T.the-row) b o γ)) ∷ ‵ (flft κ₂ q₂) ∷ Tokens ∷ ‵ Maps ∷ []
+
+  -- each map is had twice: for the call, and for the exit
+  apart : ent 𝓤 (onEntry 𝓤 H A lent.signature κs qs x at) (⋆ 𝓤 H A (‵ Maps ∷ Had h))
   apart =
       qed W ((‵ (flft κ₀ q₀) ⊛ ‵ (flft κ₁ q₁) ⊛ ‵ (flft κ₂ q₂) ⊛ ‵ ftrue)
       ∷ ‵ (owns (B.the-row ∷ u32 ∷ u16 ∷ ShrSlice (named 0) κ₀ i16 ∷ bool ∷ ShrSlice (named 1) κ₁ i16 ∷ MutRef (named 2) κ₂ T.the-row ∷ []) x at) ∷ []) ∵
@@ -143,58 +151,57 @@ module _ {M : Type 1} (𝓤 : URA M) (H : Heap 𝓤) (A : Atoms 𝓤) (W : Given
       -- [what col owns, twice; what map owns, twice; obs; the borrow; true; κ₂'s token; true; κ₁'s; κ₀'s]
       move ! (2 ∷ 0 ∷ []) $ fjoin ! $ move ! (2 ∷ 1 ∷ []) $ fjoin ! $
       -- [the maps; the maps; obs; the borrow; true; κ₂'s token; true; κ₁'s; κ₀'s]
-      move ! (8 ∷ 7 ∷ 6 ∷ []) $ group ! 3 $ keep ! (3 ∷ 4 ∷ 6 ∷ 0 ∷ 1 ∷ 2 ∷ []) $ done !
+      move ! (8 ∷ 7 ∷ 6 ∷ []) $ group ! 3 $ keep ! (1 ∷ 3 ∷ 4 ∷ 6 ∷ 0 ∷ 2 ∷ []) $ done !
 
-  module _ (gblock : Is B.the-row block vblock) (lidx-fits : lidx < 2 ^ 32) (avail-fits : avail < 2 ^ 16) where
-    exits : (r : Motion) → r .code < 2 ^ 32 → r ≡ got
-        → ent 𝓤 (⋆ 𝓤 H A (‵ (fobs γ (T.the-row .coded .code (r .cand))) ∷ ‵ (fbor κ₂ (Body (mem T.the-row) b o γ)) ∷ ‵ (flft κ₂ q₂) ∷ Tokens ∷ ‵ (fsep Own₀ Own₁) ∷ [])) (Post (vint w32 (r .code)))
-    exits r code-fits e =
-        qed W (‵ (fobs γ (T.the-row .coded .code (r .cand))) ∷ ‵ (fbor κ₂ (Body (mem T.the-row) b o γ)) ∷ ‵ (flft κ₂ q₂) ∷ Tokens ∷ ‵ (fsep Own₀ Own₁) ∷ []) ∵
-        suffices ! _ (ends-at 𝓤 H A lent.ended stayed (lent.clauses 𝓤 H A at-mem run) W ((κs, qs, tt, x, at), tt) (vint w32 (r .code)) (r .code) last (tt, (tt, (tt, (tt, (tt, (tt, (tt, tt)))))))) $
-        suffices ! _ (both-said 𝓤 H A W (onExit 𝓤 H A lent.ended stayed κs qs at (vint w32 (r .code)) (r .code) x last) (r .code ≡ got .code) (r .cand ≡ got .cand) (ap (λ (m : Motion). m .code) e) (ap (λ (m : Motion). m .cand) e)) $
+  module _ (gblock : Is B.the-row block (vblock ∷ [])) (lidx-fits : lidx < 2 ^ 32) (avail-fits : avail < 2 ^ 16) where
+    -- what a number, a truth value or the block owns is had for nothing
+    six : {K : Type 0} {Γ : List (Item 𝓤)} {G : Goal 𝓤 H} → K → {P : Fml} → Seq K W (‵ (Six P) ∷ Γ) G → Seq K W (‵ P ∷ ‵ Maps ∷ Γ) G
+    six t s =
+        move t (1 ∷ []) $ fsplit t $ move t (1 ∷ 2 ∷ []) $ fjoin t $ owned t bool (Is bool) (bool-makes 𝓤 H A W) has _ refl $ fjoin t $ move t (1 ∷ 0 ∷ []) $ fjoin t $
+        owned t u16 (Is u16) (uint-makes 𝓤 H A W w16) avail _ (refl, avail-fits) $ fjoin t $ owned t u32 (Is u32) (uint-makes 𝓤 H A W w32) lidx _ (refl, lidx-fits) $ fjoin t $
+        owned t B.the-row (Is B.the-row) (LL.makes B.the-type B′.the-plain 𝓤 H A) block _ gblock $ fjoin t $ s
+
+    -- how the walk ends, at an answer r
+    exits : (r : Motion) → r .code < 2 ^ 32 → r ≡ got → ent 𝓤 (⋆ 𝓤 H A (Had (r .cand))) (Post (vint w32 (r .code)))
+    exits r fits e =
+        qed W (Had (r .cand)) ∵
+        suffices ! _ (ends-at 𝓤 H A lent.ended stayed (lent.clauses 𝓤 H A at-mem run) W ((κs, qs, tt, x, at), tt) (vint w32 (r .code)) (r .code) (tt, (tt, (tt, (tt, (tt, (tt, (r .cand, tt))))))) (tt, (tt, (tt, (tt, (tt, (tt, (tt, tt)))))))) $
+        says-both ! (ap (λ (m : Motion). m .code) e) (ap (λ (m : Motion). m .cand) e) $
         -- the tokens
         move ! (3 ∷ []) $ split ! $ move ! (1 ∷ []) $ split ! $ move ! (2 ∷ 0 ∷ 5 ∷ 1 ∷ []) $ group ! 4 $ frame ! $
-        -- the parameters, from the last to the first
-        feqI ! (List Val) (vptr b o ∷ []) (vptr b o ∷ []) refl $ fjoin3 ! $ nothing ! $ move ! (1 ∷ 0 ∷ []) $ fjoin ! $
-        move ! (1 ∷ []) $ fsplit ! $ move ! (1 ∷ 2 ∷ []) $ fjoin ! $ owned ! bool (Is bool) (bool-makes 𝓤 H A W) has _ refl $ fjoin ! $ move ! (1 ∷ 0 ∷ []) $ fjoin ! $
-        owned ! u16 (Is u16) (uint-makes 𝓤 H A W w16) avail _ (refl, avail-fits) $ fjoin ! $ owned ! u32 (Is u32) (uint-makes 𝓤 H A W w32) lidx _ (refl, lidx-fits) $ fjoin ! $
-        owned ! B.the-row (Is B.the-row) (LL.makes B.the-type B′.the-plain 𝓤 H A) block _ gblock $ fjoin ! $ frame ! $
-        owned ! u32 (Is u32) (uint-makes 𝓤 H A W w32) (r .code) _ (refl, code-fits) $ done !
-      where
-        last : Unit {0} × (Unit {0} × (Unit {0} × (Unit {0} × (Unit {0} × (Unit {0} × (EvcCandidates × Unit {0}))))))
-        last = (tt, (tt, (tt, (tt, (tt, (tt, (r .cand, tt)))))))
+        -- the parameters
+        feqI ! (List Val) (vptr b o ∷ []) (vptr b o ∷ []) refl $ fjoin3 ! $ nothing ! $ move ! (1 ∷ 0 ∷ []) $ fjoin ! $ six ! (frame ! $
+        owned ! u32 (Is u32) (uint-makes 𝓤 H A W w32) (r .code) _ (refl, fits) $ done !)
 
     -- the call: what it is passed, what it asks, and what is known of its answer
     abbrev passed : Args by-value.signature (κ₀, (κ₁, tt))
     passed = (block, (lidx, (avail, (map, (has, (col, (h, tt)))))))
 
     abbrev to : ByValue 𝓤 H A at-mem run .Ghost
-    to = (((κ₀, (κ₁, tt)), (q₀, (q₁, tt)), tt, passed, (vblock, (vint w32 lidx ∷ [], (vint w16 avail ∷ [], (vmap ∷ [], (vbool has ∷ [], (vcol ∷ [], (vals h, tt)))))))), tt)
+    to = (((κ₀, (κ₁, tt)), (q₀, (q₁, tt)), tt, passed, (vblock ∷ [], (vint w32 lidx ∷ [], (vint w16 avail ∷ [], (vmap ∷ [], (vbool has ∷ [], (vcol ∷ [], (vals h, tt)))))))), tt)
 
-    asked : Is T.the-row h (vals h) → ent 𝓤 (⋆ 𝓤 H A (Tokens ∷ ‵ (fsep Own₀ Own₁) ∷ [])) (ByValue 𝓤 H A at-mem run .pre to)
+    asked : Is T.the-row h (vals h) → ent 𝓤 (⋆ 𝓤 H A (Tokens ∷ ‵ Maps ∷ [])) (ByValue 𝓤 H A at-mem run .pre to)
     asked gh =
-        qed W (Tokens ∷ ‵ (fsep Own₀ Own₁) ∷ []) ∵ move ! (1 ∷ []) $ fsplit ! $ nothing ! $ owned ! T.the-row (Is T.the-row) (LL.makes T.the-type T′.the-plain 𝓤 H A) h _ gh $ fjoin ! $
-        move ! (2 ∷ 0 ∷ []) $ fjoin ! $ owned ! bool (Is bool) (bool-makes 𝓤 H A W) has _ refl $ fjoin ! $ move ! (1 ∷ 0 ∷ []) $ fjoin ! $
-        owned ! u16 (Is u16) (uint-makes 𝓤 H A W w16) avail _ (refl, avail-fits) $ fjoin ! $ owned ! u32 (Is u32) (uint-makes 𝓤 H A W w32) lidx _ (refl, lidx-fits) $ fjoin ! $
-        owned ! B.the-row (Is B.the-row) (LL.makes B.the-type B′.the-plain 𝓤 H A) block _ gblock $ fjoin ! $ move ! (1 ∷ 0 ∷ []) $ join ! $ frame ! $ done !
+        qed W (Tokens ∷ ‵ Maps ∷ []) ∵ nothing ! $ owned ! T.the-row (Is T.the-row) (LL.makes T.the-type T′.the-plain 𝓤 H A) h _ gh $ fjoin ! $ move ! (0 ∷ 2 ∷ []) $ six ! (move ! (1 ∷ 0 ∷ []) $ join ! $ frame ! $ done !)
 
     said : (r : Motion) → ent 𝓤 (ensured 𝓤 H A by-value.ended (by-value.clauses 𝓤 H A at-mem run) (κ₀, (κ₁, tt)) passed tt r) (fact 𝓤 (r ≡ got))
     said r = exE 𝓤 _ (λ ws. snd∗ 𝓤 (sem 𝓤 H A (lasts by-value.ended (κ₀, (κ₁, tt)) passed ws)) (fact 𝓤 (r ≡ got)))
 
     module _ (C : Calls 𝓤 H) (Λ : Loops 𝓤 H) (fm : FmC 𝓤 H (W .laws) C) (known : Triple 𝓤 (C #evc-util·get-motion) (ByValue 𝓤 H A at-mem run)) where
       walk : Is (ShrSlice (named 0) κ₀ i16) map (vmap ∷ []) → Is (ShrSlice (named 1) κ₁ i16) col (vcol ∷ [])
-          → ent 𝓤 (⋆ 𝓤 H A Held) (WpFn 𝓤 H C Λ code.function (LL.val B.the-type B′.the-laws block ∷ vint w32 lidx ∷ vint w16 avail ∷ vmap ∷ vbool has ∷ vcol ∷ vptr b o ∷ []) Post)
+          → ent 𝓤 (onEntry 𝓤 H A lent.signature κs qs x at) (WpFn 𝓤 H C Λ code.function (vblock ∷ vint w32 lidx ∷ vint w16 avail ∷ vmap ∷ vbool has ∷ vcol ∷ vptr b o ∷ []) Post)
       walk gmap gcol =
-          qed W Held ∵ enter ! C Λ code.function (LL.val B.the-type B′.the-laws block ∷ vint w32 lidx ∷ vint w16 avail ∷ vmap ∷ vbool has ∷ vcol ∷ vptr b o ∷ []) _ $
+          via 𝓤 (⋆ 𝓤 H A (‵ Maps ∷ Had h)) apart (
+          qed W (‵ Maps ∷ Had h) ∵ enter ! C Λ code.function (vblock ∷ vint w32 lidx ∷ vint w16 avail ∷ vmap ∷ vbool has ∷ vcol ∷ vptr b o ∷ []) _ $
           alloc1 ! (λ l₀. alloc1 ! (λ l₁. alloc1 ! (λ l₂. alloc1 ! (λ l₃. alloc1 ! (λ l₄. alloc1 ! (λ l₅. alloc1 ! (λ l₆. alloc1 ! (λ l₇. alloc1 ! (λ l₈. alloc1 ! (λ l₉. alloc0 ! $ params1 ! $
           pass1 ! (init ! 16 refl (LL.lawful B.the-type B′.the-laws 𝓤 H A W .typed block _ gblock .0)) $ pass1 ! (init ! 14 refl (tt, record { fits = lidx-fits })) $ pass1 ! (init ! 12 refl (tt, record { fits = avail-fits })) $
           pass1 ! (init ! 10 refl (shr-slice-lawful 𝓤 H A W (named 0) κ₀ i16 .typed map (vmap ∷ []) gmap .0)) $ pass1 ! (init ! 8 refl (tt, tt)) $
           pass1 ! (init ! 6 refl (shr-slice-lawful 𝓤 H A W (named 1) κ₁ i16 .typed col (vcol ∷ []) gcol .0)) $ pass1 ! (init ! 4 refl (tt, tt)) $ pass0 ! $
-          move ! (20 ∷ 21 ∷ 22 ∷ []) $ opens ! tt T.the-row {h = h} b o (λ vs. spelt ! T.the-row (Is T.the-row) (shows 𝓤 H A T.the-row) vals (LL.tells T.the-type T′.the-laws) fullShare h vs b o $
-          -- [the record's cell; what it owns; the open borrow; obs; auth; room for _9; …; room for _8; …; _7; …; _1; …; room for _0; …; the tokens; the maps; the maps]
+          move ! (21 ∷ 22 ∷ 23 ∷ []) $ opens ! tt T.the-row {h = h} b o (λ vs. spelt ! T.the-row (Is T.the-row) (shows 𝓤 H A T.the-row) vals (LL.tells T.the-type T′.the-laws) fullShare h vs b o $
+          -- [the record's cell; what it owns; the open borrow; obs; auth; room for _9; …; room for _8; …; _7; …; _1; …; room for _0; …; the maps; the tokens; the maps]
           move ! (1 ∷ []) $ peeks ! T.the-row (Is T.the-row) (shows 𝓤 H A T.the-row) h (vals h) (λ gh. move ! (1 ∷ []) $
           assigns ! (of-opd ! (load ! (from ! (hop ! (look ! 9 refl) (stop !))) (look-raw ! 0 refl))) (from ! (stop !)) (init ! 5 refl (LL.lawful T.the-type T′.the-laws 𝓤 H A W .typed h _ gh .0)) $
-          move ! (25 ∷ 26 ∷ []) $ use2 W (raw (ByValue 𝓤 H A at-mem run .pre to)) (asked gh) $
+          move ! (26 ∷ 25 ∷ []) $ use2 W (raw (ByValue 𝓤 H A at-mem run .pre to)) (asked gh) $
           calls-at ! fm (ByValue 𝓤 H A at-mem run) known to
           (and-then ! (load ! (from ! (stop !)) (look ! 22 refl)) (and-then ! (load ! (from ! (stop !)) (look ! 20 refl)) (and-then ! (load ! (from ! (stop !)) (look ! 18 refl)) (and-then ! (load ! (from ! (stop !)) (look ! 16 refl))
           (and-then ! (load ! (from ! (stop !)) (look ! 14 refl)) (and-then ! (load ! (from ! (stop !)) (look ! 12 refl)) (and-then ! (load ! (from ! (stop !)) (look ! 6 refl)) (no-more !)))))))) (λ u.
@@ -212,7 +219,7 @@ module _ {M : Type 1} (𝓤 : URA M) (H : Heap 𝓤) (A : Atoms 𝓤) (W : Given
           returns ! (look ! 22 refl) $ forget ! 4 refl $ forget ! 6 refl $ forget ! 8 refl $ forget ! 10 refl $ forget ! 12 refl $ forget ! 14 refl $ forget ! 16 refl $ forget ! 18 refl $ forget ! 20 refl $ forget ! 22 refl $
           move ! (22 ∷ 23 ∷ []) $ free1 ! $ move ! (20 ∷ 21 ∷ []) $ free1 ! $ move ! (18 ∷ 19 ∷ []) $ free1 ! $ move ! (16 ∷ 17 ∷ []) $ free1 ! $ move ! (14 ∷ 15 ∷ []) $ free1 ! $
           move ! (12 ∷ 13 ∷ []) $ free1 ! $ move ! (10 ∷ 11 ∷ []) $ free1 ! $ move ! (8 ∷ 9 ∷ []) $ free1 ! $ move ! (6 ∷ 7 ∷ []) $ free1 ! $ move ! (4 ∷ 5 ∷ []) $ free1 ! $ free0 ! $
-          by ! (exits r (code-fits r u gr) e)))))))))))))))))
+          by ! (exits r (code-fits r u gr) e))))))))))))))))))
 
 module _ {M : Type 1} (𝓤 : URA M) (H : Heap 𝓤) (A : Atoms 𝓤) (W : Given 𝓤 H A) (at-mem : Memory → SProp 𝓤) (run : Routine → Fun 𝓤) where
   lent-walks : (C : Calls 𝓤 H) (Λ : Loops 𝓤 H) → FmC 𝓤 H (W .laws) C → Triple 𝓤 (C #evc-util·get-motion) (ByValue 𝓤 H A at-mem run)
@@ -223,10 +230,8 @@ module _ {M : Type 1} (𝓤 : URA M) (H : Heap 𝓤) (A : Atoms 𝓤) (W : Given
       (λ κs qs bounds a g are.
       let cand = a .1 .1 .1 .1 .1 .1 .0 in
       via 𝓤 _ (fst∗ 𝓤 _ (emp 𝓤))
-      (via 𝓤 _
-      (apart 𝓤 H A W at-mem run (κs .0) (κs .1 .0) (κs .1 .1 .0) (qs .0) (qs .1 .0) (qs .1 .1 .0) (a .0) (a .1 .0) (a .1 .1 .0) (a .1 .1 .1 .0) (a .1 .1 .1 .1 .0) (a .1 .1 .1 .1 .1 .0) (cand .ptr .0) (cand .ptr .1) (cand .name) (cand .now))
       (walk 𝓤 H A W at-mem run (κs .0) (κs .1 .0) (κs .1 .1 .0) (qs .0) (qs .1 .0) (qs .1 .1 .0) (a .0) (a .1 .0) (a .1 .1 .0) (a .1 .1 .1 .0) (a .1 .1 .1 .1 .0) (a .1 .1 .1 .1 .1 .0) (cand .ptr .0) (cand .ptr .1) (cand .name) (cand .now)
-      (are .0) (are .1 .0 .1) (are .1 .1 .0 .1) C Λ fm known (are .1 .1 .1 .0) (are .1 .1 .1 .1 .1 .0))))
+      (are .0) (are .1 .0 .1) (are .1 .1 .0 .1) C Λ fm known (are .1 .1 .1 .0) (are .1 .1 .1 .1 .1 .0)))
 
   goes : AllGo 𝓤 H A W 3 (lent.signature .params) (lent.ended .kept) stayed
   goes = (
