@@ -1,6 +1,7 @@
 //! Writes the fixed lists into a directory: inputs, and the answers that the Rust gives.
 
 use oracle::cases::{clip, corners, Component, Rng};
+use oracle::util_lists;
 use std::fmt::Write;
 use std::path::Path;
 use std::{env, fs, io};
@@ -53,5 +54,13 @@ fn main() -> io::Result<()> {
     }
     fs::create_dir_all(dir)?;
     fs::write(dir.join("mv_clip.records"), records)?;
-    fs::write(dir.join("mv_clip.answers"), answers)
+    fs::write(dir.join("mv_clip.answers"), answers)?;
+    for (name, [records, answers]) in [
+        ("util", util_lists::accepted()),
+        ("util_bad", util_lists::bad()),
+    ] {
+        fs::write(dir.join(format!("{name}.records")), records)?;
+        fs::write(dir.join(format!("{name}.answers")), answers)?;
+    }
+    Ok(())
 }
