@@ -41,8 +41,12 @@ mod tbl {
 }
 mod util {
     include!("../revc/src/util.rs");
+    pub mod calls;
 }
 
 pub mod cases;
+pub mod model;
+pub mod util_lists;
 pub use mc::calls::mv_clip;
 pub use plane::calls::{pad, plane_config};
+pub use util::calls::{evc_get_avail_inter, evc_get_motion, evc_get_mv_dir};

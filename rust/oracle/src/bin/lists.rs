@@ -2,6 +2,7 @@
 
 use oracle::cases::{clip, corners, Component, Padding, Rng};
 use oracle::plane_config;
+use oracle::util_lists;
 use std::fmt::Write;
 use std::path::Path;
 use std::{env, fs, io};
@@ -105,7 +106,27 @@ fn write_mv_clip(dir: &Path) -> io::Result<()> {
         writeln!(answers, "0 {mvx} {mvy}").unwrap();
     }
     fs::write(dir.join("mv_clip.records"), records)?;
-    fs::write(dir.join("mv_clip.answers"), answers)
+    fs::write(dir.join("mv_clip.answers"), answers)?;
+    for (name, [records, answers]) in [
+        ("util", util_lists::accepted()),
+        ("util_bad", util_lists::bad()),
+    ] {
+        fs::write(dir.join(format!("{name}.records")), records)?;
+        fs::write(dir.join(format!("{name}.answers")), answers)?;
+    }
+    Ok(())
+}
+
+/// Calls of util.rs: the Rust's answers, and refusals by document 01.
+fn write_util(dir: &Path) -> io::Result<()> {
+    for (name, [records, answers]) in [
+        ("util", util_lists::accepted()),
+        ("util_bad", util_lists::bad()),
+    ] {
+        fs::write(dir.join(format!("{name}.records")), records)?;
+        fs::write(dir.join(format!("{name}.answers")), answers)?;
+    }
+    Ok(())
 }
 
 fn main() -> io::Result<()> {
@@ -113,5 +134,6 @@ fn main() -> io::Result<()> {
     let dir = Path::new(&dir);
     fs::create_dir_all(dir)?;
     write_mv_clip(dir)?;
-    write_pad(dir)
+    write_pad(dir)?;
+    write_util(dir)
 }

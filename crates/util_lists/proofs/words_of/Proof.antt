@@ -1,0 +1,31 @@
+-- `util_lists::words_of` meets its contract. Assumes nothing.
+use mathlib.Core.Path.{_≡_}
+use Prim.Native.Nat.{_≤_, _-_}
+use native.Mathlib.Omega.{arith}
+use borrow.Author.Needs.{needs}
+use lib.ListN.{length, length-set}
+use Rattle.util_lists.proofs.words_of.Statement.{statement}
+use Rattle.util_lists.proofs.words_of.Tie as tie
+
+abbrev Inv-loop : tie.InvT-loop
+Inv-loop r words₀ i₀ words i = (i ≤ 16) × (length words ≡ 16)
+
+abbrev μ-loop : tie.MeasureT-loop
+μ-loop r words₀ i₀ words i = 16 - i
+
+pub words-of-spec : {M : Type 1} → statement M
+words-of-spec =
+    tie.close
+    (tie.spec
+    Inv-loop
+    μ-loop
+    (λ c. search needs)
+    (λ c. search needs)
+    (λ c. search needs)
+    (λ c κs. search needs)
+    (λ c. search needs)
+    (λ c. search needs)
+    (λ c. search needs)
+    (λ c. search needs)
+    (λ c. (omega arith, simp length-set (omega arith)))
+    (λ c. search needs))

@@ -1,0 +1,3 @@
+fn main() {
+    util_lists::run();
+}

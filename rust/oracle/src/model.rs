@@ -1,0 +1,202 @@
+//! The three calls of util.rs as document 01 tells them, refusals included. Written from its
+//! sentences, which are quoted, and not from the Rust: samples and whole numbers, one unit at a
+//! time.
+
+pub type Mv = [i16; 2];
+
+/// A block of a picture in luma samples; each pair is across, down.
+#[derive(Clone, Copy, Debug)]
+pub struct Block {
+    pub pic: [u32; 2],
+    pub place: [u32; 2],
+    pub side: [u32; 2],
+}
+
+/// The record of four candidates: left, up, up-right, collocated.
+#[derive(Clone, Copy, Debug, PartialEq)]
+pub struct Candidates {
+    pub mv: [Mv; 4],
+    pub refi: [i8; 4],
+}
+
+/// Order counts: of the picture, of reference 0, of reference 1 and the first that it lists.
+#[derive(Clone, Copy, Debug)]
+pub struct Pocs {
+    pub poc: u32,
+    pub poc0: u32,
+    pub poc1: u32,
+    pub list_poc0: u32,
+}
+
+impl Block {
+    /// "Picture sides W and H are multiples of 4 from 4 to 8128."
+    fn is_picture_refused(&self) -> bool {
+        !self
+            .pic
+            .iter()
+            .all(|n| n % 4 == 0 && (4..=8128).contains(n))
+    }
+
+    /// "A block has sides 4, 8, 16, 32 or 64, chosen separately; its place is a multiple of 4; it
+    /// lies wholly inside the picture."
+    fn is_block_refused(&self) -> bool {
+        !(0..2).all(|d| {
+            let [pic, place, side] = [self.pic[d], self.place[d], self.side[d]].map(u64::from);
+            [4, 8, 16, 32, 64].contains(&side) && place % 4 == 0 && place + side <= pic
+        })
+    }
+
+    /// "one for each 4 by 4 unit"
+    pub fn units(&self) -> usize {
+        self.pic.iter().map(|n| *n as usize / 4).product()
+    }
+
+    /// Where the maps have the unit that holds a sample, "row by row over the whole picture"; none
+    /// outside the picture.
+    pub fn unit_at(&self, x: i64, y: i64) -> Option<usize> {
+        let [pic_w, pic_h] = self.pic.map(i64::from);
+        let is_inside = (0..pic_w).contains(&x) && (0..pic_h).contains(&y);
+        is_inside.then(|| (y / 4 * (pic_w / 4) + x / 4) as usize)
+    }
+
+    /// x, y of the first sample, and of the first one right of and below the block.
+    pub fn edges(&self) -> [i64; 4] {
+        let [[x, y], [w, h]] = [self.place, self.side].map(|pair| pair.map(i64::from));
+        [x, y, x + w, y + h]
+    }
+}
+
+/// "Checks run in rising number."
+fn first_refusal(checks: &[(u32, bool)]) -> u32 {
+    checks
+        .iter()
+        .find(|(_, refuses)| *refuses)
+        .map_or(0, |(number, _)| *number)
+}
+
+/// "bit 31 is coded, bit 15 is intra"
+fn is_coded(word: u32) -> bool {
+    word & 1 << 31 != 0
+}
+
+fn is_intra(word: u32) -> bool {
+    word & 1 << 15 != 0
+}
+
+/// 'Flags': the number returned and the flags.
+pub fn flags(b: &Block, words: &[u32]) -> (u32, u16) {
+    let code = first_refusal(&[
+        (1, b.is_picture_refused()),
+        (2, b.is_block_refused()),
+        (4, words.len() < b.units()),
+    ]);
+    if code != 0 {
+        return (code, 0);
+    }
+    let [x, y, right, below] = b.edges();
+    // "A unit outside the picture sets no flag."
+    let not_intra = |x, y| b.unit_at(x, y).map_or(false, |unit| !is_intra(words[unit]));
+    let inter = |x, y| not_intra(x, y) && is_coded(words[b.unit_at(x, y).unwrap()]);
+    let (le, ri) = (inter(x - 1, y), inter(right, y));
+    let set = [
+        (0, not_intra(x, y - 1)), // "Up and right-up (above the block's last unit) need not-intra only."
+        (1, le),
+        (3, ri),
+        (5, inter(x - 1, y - 1)),
+        (6, inter(right, y - 1)),
+        (7, le && inter(x - 1, below)), // "lower-left also needs left"
+        (8, ri && inter(right, below)), // "lower-right also needs right"
+        (9, not_intra(right - 1, y - 1)),
+    ];
+    let avail = set.iter().map(|(bit, is_set)| u16::from(*is_set) << bit);
+    (0, avail.sum())
+}
+
+/// "a motion map, four signed 16-bit numbers a unit (list 0 across, down, list 1 across, down)"
+fn vector(map: &[i16], unit: usize, list: usize) -> Mv {
+    let at = 4 * unit + 2 * list;
+    [map[at], map[at + 1]]
+}
+
+/// A collocated map that is lent; `is_present` says whether it counts.
+#[derive(Clone, Copy)]
+pub struct Collocated<'a> {
+    pub is_present: bool,
+    pub map: &'a [i16],
+}
+
+impl Collocated<'_> {
+    /// "the collocated one only where present"
+    fn is_short(&self, b: &Block) -> bool {
+        self.is_present && self.map.len() < 4 * b.units()
+    }
+
+    /// "list 0 of the collocated map at the block's first unit"
+    fn vector(&self, b: &Block) -> Option<Mv> {
+        let [x, y, ..] = b.edges();
+        self.is_present
+            .then(|| vector(self.map, b.unit_at(x, y).unwrap(), 0))
+    }
+}
+
+/// 'Candidates': the number returned and the record.
+pub fn candidates(
+    b: &Block,
+    lidx: u32,
+    avail: u16,
+    map: &[i16],
+    col: Collocated,
+    old: Candidates,
+) -> (u32, Candidates) {
+    let [x, y, right, _] = b.edges();
+    let [up, left, up_right] = [0, 1, 6].map(|bit| avail >> bit & 1 == 1);
+    // "left at x = 0, up at y = 0, or up-right at y = 0 or x + w = W; other bits are ignored"
+    let is_last = right == i64::from(b.pic[0]);
+    let names_outside = left && x == 0 || up && y == 0 || up_right && (y == 0 || is_last);
+    let code = first_refusal(&[
+        (1, b.is_picture_refused()),
+        (2, b.is_block_refused()),
+        (3, lidx != 0 && lidx != 1), // "a list number is neither 0 nor 1"
+        (4, map.len() < 4 * b.units() || col.is_short(b)),
+        (7, names_outside),
+    ]);
+    if code != 0 {
+        return (code, old);
+    }
+    // "from the given list of the motion map, else (1,1)"
+    let neighbour = |flag, x, y| match flag {
+        true => vector(map, b.unit_at(x, y).unwrap(), lidx as usize),
+        false => [1, 1],
+    };
+    let mv = [
+        neighbour(left, x - 1, y),
+        neighbour(up, x, y - 1),
+        neighbour(up_right, right, y - 1),
+        col.vector(b).unwrap_or(old.mv[3]), // "the fourth keeps its old value"
+    ];
+    // "All four reference numbers become 0."
+    (0, Candidates { mv, refi: [0; 4] })
+}
+
+/// 'Direct vectors': the number returned and the two vectors.
+pub fn direct(b: &Block, pocs: Pocs, col: Collocated) -> (u32, [Mv; 2]) {
+    let counts = [pocs.poc, pocs.poc0, pocs.poc1, pocs.list_poc0];
+    let code = first_refusal(&[
+        (1, b.is_picture_refused()),
+        (2, b.is_block_refused()),
+        (4, col.is_short(b)),
+        (5, counts.iter().any(|count| *count > 32767)),
+    ]);
+    let [count, count0, count1, first_listed] = counts.map(i128::from);
+    let co = count1 - first_listed;
+    if code != 0 || co == 0 {
+        return (code, [[0; 2]; 2]);
+    }
+    // "collocated vector from list 0, zero without a map"
+    let v = col.vector(b).unwrap_or([0, 0]).map(i128::from);
+    // "truncated toward zero, and only the low sixteen bits are kept, as a signed number"
+    let kept = |quotient: i128| ((quotient + 32768).rem_euclid(65536) - 32768) as i16;
+    let first = v.map(|v| kept((count - count0) * v / co));
+    let second = v.map(|v| kept(-(count1 - count) * v / co));
+    (0, [first, second])
+}
