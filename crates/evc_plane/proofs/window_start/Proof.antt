@@ -33,12 +33,12 @@ module _ (k : PlaneType) (W H : ℕ) (c : PlaneConfig) (zx zy : ℤ) (x y : ℕ)
 within : (c : tie.After-struct-known) → c .before .before .clamp .result * c .before .before .before .plane-config .result .stride + c .before .clamp2 .result ≤ 8288 * 8288 + 8288
 within c =
     let r = c .before .before .before in
-    small (r .before .args .t) (r .before .args .pic-w) (r .before .args .pic-h) _ _ _ _ _ (c .before .clamp2 .ensures) (c .before .before .clamp .ensures) (sized r)
+    small (r .before .args .t) (r .before .args .pic-w) (r .before .args .pic-h) (r .plane-config .result) _ _ _ _ (c .before .clamp2 .ensures) (c .before .before .clamp .ensures) (sized r)
 
 returns : tie.Need-returns
 returns c =
     let r = c .before .before .before in
-    index _ _ _ _ _ _ _ _ (c .before .clamp2 .ensures) (c .before .before .clamp .ensures) (r .plane-config .ensures)
+    index _ _ _ (r .plane-config .result) _ _ _ _ (c .before .clamp2 .ensures) (c .before .before .clamp .ensures) (r .plane-config .ensures)
 
 pub window-start-spec : {M : Type 1} → statement M
 window-start-spec =
