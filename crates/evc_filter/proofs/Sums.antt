@@ -118,8 +118,16 @@ module _ (k : PlaneType) (phase : ℕ) (l : phase < phases k) (s : List ℕ) (at
       let u = under k s at step in
       let b = balance (taps k phase) f (at-step s at step) bias (λ j m. h j (let c = sh .count in omega arith)) in
       is-by b
-      (omega (arith, sh .adds (at-step s at step), sh .takes (at-step s at step), sh .total bias,
-      ap (λ (n : ℕ). tapsOf k phase .a * n) (u .p-is), ap (λ (n : ℕ). tapsOf k phase .b * n) (u .q-is), ap (λ (n : ℕ). tapsOf k phase .c * n) (u .x-is), ap (λ (n : ℕ). tapsOf k phase .d * n) (u .y-is)))
+      (omega (
+        arith,
+        sh .adds (at-step s at step),
+        sh .takes (at-step s at step),
+        sh .total bias,
+        ap (λ (n : ℕ). tapsOf k phase .a * n) (u .p-is),
+        ap (λ (n : ℕ). tapsOf k phase .b * n) (u .q-is),
+        ap (λ (n : ℕ). tapsOf k phase .c * n) (u .x-is),
+        ap (λ (n : ℕ). tapsOf k phase .d * n) (u .y-is),
+      ))
 
 -- ---- numbers alone: a, c, e and d stand for the products of the taps with p, x, y and q
 
@@ -174,7 +182,7 @@ module _ (k : PlaneType) (phase : ℕ) (l : phase < phases k) (s : List ℕ) (at
   one-is =
       let n = added + 20480 - taken in
       let e : finished 320 (quarterAt s at (offsetsOf k step) (tapsOf k phase) + 8) ≡ min ((n + 32) / 64 - 320) 1023 =
-          ap (λ (m : ℕ). finished 320 (m + 8)) quarter-of ∙ ap (λ (m : ℕ). min (m - 320) 1023) (one-shape n) in
+      ap (λ (m : ℕ). finished 320 (m + 8)) quarter-of ∙ ap (λ (m : ℕ). min (m - 320) 1023) (one-shape n) in
       e ∙ clipped (shrZ (sum-of-samples +ℤ pos 32) 64) ((n + 32) / 64) 320
       (rounded (sum-of-samples +ℤ pos 32) (added + 32) taken (n + 32) 64 320 (lit< tt) (is-by (is-+ is-sum (nat 32)) (omega arith)) (let h = taken-small in omega arith))
 

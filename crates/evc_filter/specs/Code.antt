@@ -3,23 +3,29 @@
 use mathlib.Core.Bool.{Bool, _||_}
 use Prim.Native.Nat.{ℕ, _+_, _-_, _*_, _/_, _%_, _≤_, min}
 use lib.Dec.{eqb}
-use mathlib.Core.List.{List}
-use lib.IntN.{ℤ, pos}
+use mathlib.Core.List.{List, [], _∷_}
 use lib.ListN.{getD}
-use Rattle.evc_int.specs.Whole.{_⁺, _⁻}
-use Rattle.evc_filter.specs.Filter.{taps}
 use Rattle.evc_plane.specs.declared.PlaneType.{PlaneType}
 use Rattle.evc_plane.specs.declared.PlaneType.the-variants.{Y, UV}
 use Rattle.evc_filter.specs.declared.Offsets.{Offsets}
 use Rattle.evc_filter.specs.declared.Taps.{Taps}
 
--- the sizes of the taps
-abbrev tap : PlaneType → ℕ → ℕ → ℤ
-tap k phase i = getD (taps k phase) i (pos 0)
-
+-- the sizes of the taps, by phase
 abbrev pub tapsOf : PlaneType → ℕ → Taps
-tapsOf Y phase = record { a = tap Y phase 0 ⁺; b = tap Y phase 1 ⁻; c = tap Y phase 2 ⁺ / 2; d = tap Y phase 3 ⁺ / 2 }
-tapsOf UV phase = record { a = 0; b = tap UV phase 0 ⁻; c = tap UV phase 1 ⁺ / 2; d = tap UV phase 2 ⁺ / 2 }
+tapsOf Y phase =
+    record {
+      a = getD (0 ∷ 1 ∷ 2 ∷ 1 ∷ []) phase 0;
+      b = getD (0 ∷ 5 ∷ 10 ∷ 5 ∷ []) phase 0;
+      c = getD (32 ∷ 26 ∷ 20 ∷ 10 ∷ []) phase 0;
+      d = getD (0 ∷ 10 ∷ 20 ∷ 26 ∷ []) phase 0;
+    }
+tapsOf UV phase =
+    record {
+      a = 0;
+      b = getD (0 ∷ 2 ∷ 4 ∷ 6 ∷ 8 ∷ 6 ∷ 4 ∷ 2 ∷ []) phase 0;
+      c = getD (32 ∷ 29 ∷ 26 ∷ 23 ∷ 20 ∷ 15 ∷ 10 ∷ 5 ∷ []) phase 0;
+      d = getD (0 ∷ 5 ∷ 10 ∷ 15 ∷ 20 ∷ 23 ∷ 26 ∷ 29 ∷ []) phase 0;
+    }
 
 -- taps for which no sum of 16 bits wraps
 pub record Small (t : Taps) : Type 0 where

@@ -3,7 +3,9 @@ ghost use Prim.Native.Nat.{ℕ, _+_, _-_, _*_, _/_, _%_, _<_, _≤_, min};
 ghost use lib.ListN.{length, getD};
 ghost use mathlib.Core.Bool.{true};
 ghost use Rattle.evc_int.specs.Lists.{withRow, withBlock};
-ghost use Rattle.evc_filter.specs.Code.{tapsOf, Small, quarterSum, wholeSum, splitSum, finished, Ordered, Bounded, quarterAt, oneAt, splitAt, isRowWidth};
+ghost use Rattle.evc_filter.specs.Filter.{phases};
+ghost use Rattle.evc_filter.specs.Code.{tapsOf, offsetsOf, Small, quarterSum, wholeSum, splitSum, finished, Ordered, Bounded, quarterAt, oneAt, splitAt, isRowWidth};
+use evc_plane::PlaneType;
 
 // The sizes of a filter's taps, for sums a p - b q + 2 c x + 2 d y of 16 bits.
 pub struct Taps {
@@ -11,6 +13,55 @@ pub struct Taps {
     pub b: u16,
     pub c: u16,
     pub d: u16,
+}
+
+// By phase: tbl_mc_l_coeff's and tbl_mc_c_coeff's.
+const A_L: [u16; 4] = [0, 1, 2, 1];
+
+const B_L: [u16; 4] = [0, 5, 10, 5];
+
+const C_L: [u16; 4] = [32, 26, 20, 10];
+
+const D_L: [u16; 4] = [0, 10, 20, 26];
+
+const B_C: [u16; 8] = [0, 2, 4, 6, 8, 6, 4, 2];
+
+const C_C: [u16; 8] = [32, 29, 26, 23, 20, 15, 10, 5];
+
+const D_C: [u16; 8] = [0, 5, 10, 15, 20, 23, 26, 29];
+
+fn taps_l(phase: usize) -> Taps
+    requires { ⌜ phase < 4 ⌝ }
+    ensures { λ r. ⌜ r ≡ tapsOf PlaneType.Y phase ⌝ }
+{
+    Taps {
+        a: A_L[phase],
+        b: B_L[phase],
+        c: C_L[phase],
+        d: D_L[phase],
+    }
+}
+
+fn taps_c(phase: usize) -> Taps
+    requires { ⌜ phase < 8 ⌝ }
+    ensures { λ r. ⌜ r ≡ tapsOf PlaneType.UV phase ⌝ }
+{
+    Taps {
+        a: 0,
+        b: B_C[phase],
+        c: C_C[phase],
+        d: D_C[phase],
+    }
+}
+
+pub fn taps_of(t: PlaneType, phase: usize) -> Taps
+    requires { ⌜ phase < phases t ⌝ }
+    ensures { λ r. ⌜ r ≡ tapsOf t phase ⌝ }
+{
+    match t {
+        PlaneType::Y => taps_l(phase),
+        PlaneType::UV => taps_c(phase),
+    }
 }
 
 // A product of 16 bits. The bounds are for the proof: callers then need no law on products.
@@ -82,6 +133,28 @@ pub struct Offsets {
     pub y: usize,
     pub q1: usize,
     pub p1: usize,
+}
+
+pub fn offsets_of(t: PlaneType, step: usize) -> Offsets
+    requires { ⌜ step ≤ 65535 ⌝ }
+    ensures { λ r. ⌜ r ≡ offsetsOf t step ⌝ }
+{
+    match t {
+        PlaneType::Y => Offsets {
+            q0: step,
+            x: 2 * step,
+            y: 3 * step,
+            q1: 4 * step,
+            p1: 5 * step,
+        },
+        PlaneType::UV => Offsets {
+            q0: 0,
+            x: step,
+            y: 2 * step,
+            q1: 3 * step,
+            p1: 3 * step,
+        },
+    }
 }
 
 fn sample(s: &[u16], i: usize) -> u16
@@ -204,7 +277,7 @@ fn quarter_row(s: &[u16], at: usize, n: usize, o: Offsets, t: Taps, d: &mut [u16
 }
 
 // `one` is 1: a step that the optimizer does not know keeps it from widening the loop over rows (three times slower).
-fn quarter_block(
+pub fn quarter_block(
     s: &[u16],
     at: usize,
     stride: usize,
@@ -299,7 +372,7 @@ fn one_row(s: &[u16], at: usize, n: usize, o: Offsets, t: Taps, d: &mut [u16], t
 }
 
 // `one` is 1: a step that the optimizer does not know keeps it from widening the loop over rows (three times slower).
-fn one_block(
+pub fn one_block(
     s: &[u16],
     at: usize,
     stride: usize,
@@ -394,7 +467,7 @@ fn split_row(s: &[u16], at: usize, n: usize, o: Offsets, t: Taps, d: &mut [u16],
 }
 
 // `one` is 1: a step that the optimizer does not know keeps it from widening the loop over rows (three times slower).
-fn split_block(
+pub fn split_block(
     s: &[u16],
     at: usize,
     stride: usize,

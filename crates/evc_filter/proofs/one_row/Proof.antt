@@ -21,8 +21,7 @@ abbrev μ-loop : tie.MeasureT-loop
 -- what a part of k elements from x on asks
 part : (s : tie.Start Inv-loop μ-loop) (x k : ℕ) → x + k ≤ s .args .n → ((s .args .at + x + k + s .args .o .p1 ≤ length (s .args .s .now)) × (s .args .to + x + k ≤ length (s .args .d .now)) × Ordered (s .args .o) × Small (s .args .t)) × ((i : ℕ) → i < k → Bounded 1023 (s .args .s .now) (s .args .at + x + i) (s .args .o))
 part s x k l =
-    let p = s .pre .0 in
-    (
+    let p = s .pre .0 in (
       (omega arith, omega arith, p .3, p .4),
       λ i b. let e : s .args .at + (x + i) ≡ s .args .at + x + i = omega arith in rw e at (s .pre .1 (x + i) (omega arith)),
     )
@@ -87,8 +86,7 @@ loop-again c =
     let q = c .before .before in
     let k = q .before .before in
     let i = k .before .loop .inv in
-    let a = start (k .before .before .before) .args in
-    (
+    let a = start (k .before .before .before) .args in (
       k .loop-test .taken,
       omega arith,
       q .one-oct .kept .1 .1 .1 .1 .0 ∙ i .2,

@@ -52,8 +52,7 @@ loop-again c =
     let k = q .before .before in
     let l = k .before .loop in
     let one : start k .args .one ≡ 1 = start k .pre .1 .1 in
-    let e : l .y + start k .args .one ≡ l .y + 1 = omega arith in
-    (
+    let e : l .y + start k .args .one ≡ l .y + 1 = omega arith in (
       (let t = k .loop-test .taken in omega arith),
       q .quarter-row .kept .1 .1 .1 .1 .1 .0 ∙ l .inv .1,
       as-many _ _ _ _ _ _ _ _ e (block-step _ _ _ _ _ _ _ _ (l .inv .2) (q .quarter-row .ensures)),
