@@ -3,7 +3,7 @@ use mathlib.Core.List.{List, [], _∷_}
 use mathlib.Core.Path.{_≡_, refl, sym, ap, ap₂, _∙_}
 use Prim.Native.Nat.{ℕ, zero, suc, _+_, _-_, _*_, _/_, _%_, _<_, _≤_, min, suc-le-suc, zero-le}
 use native.Mathlib.Omega.{arith}
-use native.Mathlib.Nat.{mul-le-mul, div-add-mod}
+use native.Mathlib.Nat.{mul-le-mul, div-add-mod, le-refl}
 use lib.Dec.{lit<}
 use lib.IntN.{ℤ, pos, _+ℤ_, _*ℤ_}
 use lib.ListN.{length, getD}
@@ -20,15 +20,15 @@ use Rattle.evc_filter.specs.declared.Taps.{Taps}
 
 -- ---- the tap sum of numbers that are each `bias` too high: what the taps above 0 add, and what those below 0 take away
 
-abbrev plus : List ℤ → (ℕ → ℕ) → ℕ
+abbrev pub plus : List ℤ → (ℕ → ℕ) → ℕ
 plus [] m = 0
 plus (t ∷ ts) m = t ⁺ * m 0 + plus ts (λ (k : ℕ). m (suc k))
 
-abbrev minus : List ℤ → (ℕ → ℕ) → ℕ
+abbrev pub minus : List ℤ → (ℕ → ℕ) → ℕ
 minus [] m = 0
 minus (t ∷ ts) m = t ⁻ * m 0 + minus ts (λ (k : ℕ). m (suc k))
 
-balance : (ts : List ℤ) (f : ℕ → ℤ) (m : ℕ → ℕ) (bias : ℕ) → ((j : ℕ) → j < length ts → Is (f j) (m j) bias) → Is (tapSum ts f) (plus ts m + minus ts (λ _. bias)) (minus ts m + plus ts (λ _. bias))
+pub balance : (ts : List ℤ) (f : ℕ → ℤ) (m : ℕ → ℕ) (bias : ℕ) → ((j : ℕ) → j < length ts → Is (f j) (m j) bias) → Is (tapSum ts f) (plus ts m + minus ts (λ _. bias)) (minus ts m + plus ts (λ _. bias))
 balance [] f m bias h = nat 0
 balance (t ∷ ts) f m bias h =
     is-by
@@ -37,31 +37,31 @@ balance (t ∷ ts) f m bias h =
 
 -- ---- the shape of both filters, by the phase
 
-abbrev pOf : PlaneType → (ℕ → ℕ) → ℕ
+abbrev pub pOf : PlaneType → (ℕ → ℕ) → ℕ
 pOf Y m = m 0 + m 5
 pOf UV m = m 0 + m 3
 
-abbrev qOf : PlaneType → (ℕ → ℕ) → ℕ
+abbrev pub qOf : PlaneType → (ℕ → ℕ) → ℕ
 qOf Y m = m 1 + m 4
 qOf UV m = m 0 + m 3
 
-abbrev xOf : PlaneType → (ℕ → ℕ) → ℕ
+abbrev pub xOf : PlaneType → (ℕ → ℕ) → ℕ
 xOf Y m = m 2
 xOf UV m = m 1
 
-abbrev yOf : PlaneType → (ℕ → ℕ) → ℕ
+abbrev pub yOf : PlaneType → (ℕ → ℕ) → ℕ
 yOf Y m = m 3
 yOf UV m = m 2
 
 -- what holds of a filter at each phase
-record Shape (k : PlaneType) (phase : ℕ) : Type 0 where
-  adds : (m : ℕ → ℕ) → plus (taps k phase) m ≡ tapsOf k phase .a * pOf k m + 2 * (tapsOf k phase .c * xOf k m) + 2 * (tapsOf k phase .d * yOf k m)
-  takes : (m : ℕ → ℕ) → minus (taps k phase) m ≡ tapsOf k phase .b * qOf k m
-  total : (n : ℕ) → plus (taps k phase) (λ _. n) ≡ minus (taps k phase) (λ _. n) + 64 * n
-  small : Small (tapsOf k phase)
-  count : length (taps k phase) ≡ suc (reach k)
+pub record Shape (k : PlaneType) (phase : ℕ) : Type 0 where
+  pub adds : (m : ℕ → ℕ) → plus (taps k phase) m ≡ tapsOf k phase .a * pOf k m + 2 * (tapsOf k phase .c * xOf k m) + 2 * (tapsOf k phase .d * yOf k m)
+  pub takes : (m : ℕ → ℕ) → minus (taps k phase) m ≡ tapsOf k phase .b * qOf k m
+  pub total : (n : ℕ) → plus (taps k phase) (λ _. n) ≡ minus (taps k phase) (λ _. n) + 64 * n
+  pub small : Small (tapsOf k phase)
+  pub count : length (taps k phase) ≡ suc (reach k)
 
-shape : (k : PlaneType) (phase : ℕ) → phase < phases k → Shape k phase
+pub shape : (k : PlaneType) (phase : ℕ) → phase < phases k → Shape k phase
 shape Y zero h = record { adds = λ m. omega arith; takes = λ m. omega arith; total = λ n. omega arith; small = omega arith; count = refl }
 shape Y (suc zero) h = record { adds = λ m. omega arith; takes = λ m. omega arith; total = λ n. omega arith; small = omega arith; count = refl }
 shape Y (suc (suc zero)) h = record { adds = λ m. omega arith; takes = λ m. omega arith; total = λ n. omega arith; small = omega arith; count = refl }
@@ -146,6 +146,16 @@ clipped : (z : ℤ) (v low : ℕ) → Is z v low → min (v - low) 1023 ≡ clip
 clipped z v low p = ap (λ (n : ℕ). min n 1023) (sym (parts p .0))
 
 -- ---- the first of two stages, and one direction
+
+pub quarter-most : (s : List ℕ) (at : ℕ) (o : Offsets) (t : Taps) → Small t → Bounded 1023 s at o → quarterAt s at o t ≤ 26603
+unfolding quarterAt
+quarter-most s at o t small b =
+    let p : getD s at 0 + getD s (at + o .p1) 0 ≤ 2046 = omega (arith, b .p0-most, b .p1-most) in
+    let a = mul-le-mul (small .a-small) p in
+    let x : t .c * getD s (at + o .x) 0 ≤ t .c * 1023 = mul-le-mul (le-refl (t .c)) (b .x-most) in
+    let y : t .d * getD s (at + o .y) 0 ≤ t .d * 1023 = mul-le-mul (le-refl (t .d)) (b .y-most) in
+    let both = small .both-small in
+    omega arith
 
 module _ (k : PlaneType) (phase : ℕ) (l : phase < phases k) (s : List ℕ) (at step : ℕ) (b : Bounded 1023 s at (offsetsOf k step)) where
   sum-of-samples : ℤ

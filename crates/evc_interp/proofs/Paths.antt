@@ -3,7 +3,7 @@ use Prim.Native.Nat.{ℕ, zero, suc, _+_, _*_, _%_, _<_, _≤_}
 use mathlib.Core.Bool.{true}
 use mathlib.Core.List.{List, [], _∷_}
 use mathlib.Core.Path.{_≡_, refl, sym, ap, ap₂, subst, _∙_}
-use native.Mathlib.Nat.{add-mul, mul-le-mul, le-refl}
+use native.Mathlib.Nat.{add-mul}
 use native.Mathlib.Omega.{arith}
 use lib.ListN.{length, getD, drop}
 use Rattle.evc_int.specs.Lists.{withRow, withBlock}
@@ -11,7 +11,7 @@ use Rattle.evc_int.proofs.Lists.{row-fits, length-withBlock, withRow-ext, withB
 use Rattle.evc_int.proofs.Whole.{Is}
 use Rattle.evc_filter.specs.Filter.{phases, reach, interpolated, rowStage, interpolatedTwice}
 use Rattle.evc_filter.specs.Code.{tapsOf, offsetsOf, Ordered, Small, Bounded, isRowWidth, quarterAt, oneAt, splitAt}
-use Rattle.evc_filter.proofs.Sums.{taps-small, offsets-ordered, first-is, one-is, split-is}
+use Rattle.evc_filter.proofs.Sums.{taps-small, offsets-ordered, first-is, one-is, split-is, quarter-most}
 use Rattle.evc_filter.proofs.Lanes.{eights}
 use Rattle.evc_plane.specs.Planes.{sideOf}
 use Rattle.evc_plane.specs.declared.PlaneType.{PlaneType}
@@ -87,16 +87,6 @@ row-copied s r l k at stride y w e p =
     p ∙ withRow-ext l (y * w) w _ _ (λ x lx. ap (λ (r : List ℕ). getD r x 0) e ∙ row-sample (at + y * stride) s x) ∙ ap (λ (i : ℕ). withRow l i w (λ (x : ℕ). getD s (at + y * stride + x) 0)) z
 
 -- ---- two directions: n columns, through a list m of eight numbers a row
-
-quarter-most : (s : List ℕ) (at : ℕ) (o : Offsets) (t : Taps) → Small t → Bounded 1023 s at o → quarterAt s at o t ≤ 26603
-unfolding quarterAt
-quarter-most s at o t small b =
-    let p : getD s at 0 + getD s (at + o .p1) 0 ≤ 2046 = omega (arith, b .p0-most, b .p1-most) in
-    let a = mul-le-mul (small .a-small) p in
-    let x : t .c * getD s (at + o .x) 0 ≤ t .c * 1023 = mul-le-mul (le-refl (t .c)) (b .x-most) in
-    let y : t .d * getD s (at + o .y) 0 ≤ t .d * 1023 = mul-le-mul (le-refl (t .d)) (b .y-most) in
-    let both = small .both-small in
-    omega arith
 
 module _ (k : PlaneType) (s m : List ℕ) (at stride n h dx : ℕ) (dx-small : dx < phases k) (q : Within s at stride (n + reach k) (h + reach k)) where
   bound : (y x : ℕ) → y < h + reach k → x < n → Bounded 1023 s (at + y * stride + x) (offsetsOf k 1)
