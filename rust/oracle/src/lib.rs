@@ -45,6 +45,7 @@ mod util {
 }
 
 pub mod cases;
+pub mod mc_lists;
 pub mod model;
 pub mod util_lists;
 pub use mc::calls::{evc_mc_plane, mv_clip};
