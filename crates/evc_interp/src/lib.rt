@@ -1,0 +1,277 @@
+ghost use mathlib.Core.Path.{_≡_};
+ghost use mathlib.Core.Bool.{true, false, cond};
+ghost use Prim.Native.Nat.{ℕ, _+_, _*_, _<_, _≤_};
+ghost use lib.IntN.{ℤ, pos};
+ghost use lib.ListN.{length, getD};
+ghost use Rattle.evc_int.specs.Lists.{withRow, withBlock};
+ghost use Rattle.evc_def.specs.Blocks.{badPicture};
+ghost use Rattle.evc_plane.specs.Planes.{sideOf};
+ghost use Rattle.evc_filter.specs.Filter.{phases, lead, reach, interpolated, interpolatedTwice};
+ghost use Rattle.evc_filter.specs.Code.{isRowWidth};
+ghost use Rattle.evc_interp.specs.Prediction.{phaseOf, placeOf, isFiltered, startOf, windowOf, predicted, badSides, windowExceeds, mcPlaneCode, mcPlaneAfter, Within};
+use evc_def::EvcMv;
+use evc_def::Pel;
+use evc_plane::PlaneType;
+
+// ---- the four paths, by the directions that are filtered: across and down
+
+fn copy_row(s: &[u16], n: usize, d: &mut [u16], to: usize)
+    requires { ⌜ (n ≤ length (now s)) × (to + n ≤ length (now d)) ⌝ }
+    ensures { λ _. ⌜ now (d .exit) ≡ withRow (now (d .entry)) to n (λ (x : ℕ). getD (now (s .entry)) x 0) ⌝ }
+{
+    for x in 0..n {
+        d[to + x] = s[x];
+    }
+}
+
+fn evc_mc_00(s: &[u16], at: usize, stride: usize, w: usize, h: usize, pred: &mut [u16])
+    requires { ⌜ (at + h * stride + w ≤ length (now s) + stride) × (h * w ≤ length (now pred)) ⌝ }
+    ensures { λ _. ⌜ now (pred .exit) ≡ withBlock (now (pred .entry)) 0 w w h (λ (y x : ℕ). getD (now (s .entry)) (at + y * stride + x) 0) ⌝ }
+{
+    for y in 0..h {
+        copy_row(evc_plane::row_of(s, stride, at, y), w, pred, y * w);
+    }
+}
+
+// 1, by a sum that the optimizer does not know: see evc_filter's blocks.
+fn unit(h: usize) -> usize
+    requires { ⌜ h < 128 ⌝ }
+    ensures { λ r. ⌜ r ≡ 1 ⌝ }
+{
+    1 + h / 128
+}
+
+// MC_IBUF_PAD_L, MC_IBUF_PAD_C: how many rows more the first stage has.
+fn rows_more(t: PlaneType) -> usize
+    ensures { λ r. ⌜ r ≡ reach t ⌝ }
+{
+    match t {
+        PlaneType::Y => 5,
+        PlaneType::UV => 3,
+    }
+}
+
+fn evc_mc_n0(
+    t: PlaneType,
+    s: &[u16],
+    at: usize,
+    stride: usize,
+    w: usize,
+    h: usize,
+    dx: usize,
+    pred: &mut [u16],
+)
+    requires { ⌜ (at + h * stride + (w + reach t) ≤ length (now s) + stride) × (h * w ≤ length (now pred)) × (isRowWidth w ≡ true) × (h < 128) × (dx < phases t) ⌝ }
+    requires { ⌜ Within (now s) at stride (w + reach t) h ⌝ }
+    ensures { λ _. ⌜ now (pred .exit) ≡ withBlock (now (pred .entry)) 0 w w h (λ (y x : ℕ). interpolated t dx (now (s .entry)) (at + y * stride + x) 1) ⌝ }
+{
+    evc_filter::one_block(
+        s,
+        at,
+        stride,
+        w,
+        h,
+        evc_filter::offsets_of(t, 1),
+        evc_filter::taps_of(t, dx),
+        pred,
+        0,
+        w,
+        unit(h),
+    );
+}
+
+fn evc_mc_0n(
+    t: PlaneType,
+    s: &[u16],
+    at: usize,
+    stride: usize,
+    w: usize,
+    h: usize,
+    dy: usize,
+    pred: &mut [u16],
+)
+    requires { ⌜ (at + (h + reach t) * stride + w ≤ length (now s) + stride) × (h * w ≤ length (now pred)) × (isRowWidth w ≡ true) × (h < 128) × (dy < phases t) × (stride ≤ 65535) ⌝ }
+    requires { ⌜ Within (now s) at stride w (h + reach t) ⌝ }
+    ensures { λ _. ⌜ now (pred .exit) ≡ withBlock (now (pred .entry)) 0 w w h (λ (y x : ℕ). interpolated t dy (now (s .entry)) (at + y * stride + x) stride) ⌝ }
+{
+    evc_filter::one_block(
+        s,
+        at,
+        stride,
+        w,
+        h,
+        evc_filter::offsets_of(t, stride),
+        evc_filter::taps_of(t, dy),
+        pred,
+        0,
+        w,
+        unit(h),
+    );
+}
+
+// n columns of a block: the first stage goes through m, eight numbers a row.
+fn columns(
+    t: PlaneType,
+    s: &[u16],
+    at: usize,
+    stride: usize,
+    n: usize,
+    h: usize,
+    dx: usize,
+    dy: usize,
+    m: &mut [u16],
+    pred: &mut [u16],
+    to: usize,
+    w: usize,
+)
+    requires { ⌜ (at + (h + reach t) * stride + (n + reach t) ≤ length (now s) + stride) × (to + h * w + n ≤ length (now pred) + w) ⌝ }
+    requires { ⌜ (isRowWidth n ≡ true) × (n ≤ 8) × (h ≤ 64) × (dx < phases t) × (dy < phases t) × ((h + reach t) * 8 ≤ length (now m)) ⌝ }
+    requires { ⌜ Within (now s) at stride (n + reach t) (h + reach t) ⌝ }
+    ensures { λ _. ⌜ now (pred .exit) ≡ withBlock (now (pred .entry)) to w n h (λ (y x : ℕ). interpolatedTwice t dx dy (now (s .entry)) (at + y * stride + x) stride) ⌝ }
+{
+    let one = unit(h);
+    evc_filter::quarter_block(
+        s,
+        at,
+        stride,
+        n,
+        h + rows_more(t),
+        evc_filter::offsets_of(t, 1),
+        evc_filter::taps_of(t, dx),
+        m,
+        0,
+        8,
+        one,
+    );
+    evc_filter::split_block(
+        m,
+        0,
+        8,
+        n,
+        h,
+        evc_filter::offsets_of(t, 8),
+        evc_filter::taps_of(t, dy),
+        pred,
+        to,
+        w,
+        one,
+    );
+}
+
+// By groups of eight columns, as the Rust; a block of 4 or 2 columns is one group.
+fn groups(
+    t: PlaneType,
+    s: &[u16],
+    at: usize,
+    stride: usize,
+    w: usize,
+    h: usize,
+    dx: usize,
+    dy: usize,
+    m: &mut [u16],
+    pred: &mut [u16],
+)
+    requires { ⌜ (at + (h + reach t) * stride + (w + reach t) ≤ length (now s) + stride) × (h * w ≤ length (now pred)) ⌝ }
+    requires { ⌜ (isRowWidth w ≡ true) × (w ≤ 64) × (h ≤ 64) × (dx < phases t) × (dy < phases t) × ((h + reach t) * 8 ≤ length (now m)) ⌝ }
+    requires { ⌜ Within (now s) at stride (w + reach t) (h + reach t) ⌝ }
+    ensures { λ _. ⌜ now (pred .exit) ≡ withBlock (now (pred .entry)) 0 w w h (λ (y x : ℕ). interpolatedTwice t dx dy (now (s .entry)) (at + y * stride + x) stride) ⌝ }
+{
+    if w < 8 {
+        columns(t, s, at, stride, w, h, dx, dy, m, pred, 0, w);
+        return;
+    }
+    let mut cg = 0;
+    while cg + 8 <= w {
+        columns(t, s, at + cg, stride, 8, h, dx, dy, m, pred, cg, w);
+        cg += 8;
+    }
+}
+
+fn evc_mc_nn(
+    t: PlaneType,
+    s: &[u16],
+    at: usize,
+    stride: usize,
+    w: usize,
+    h: usize,
+    dx: usize,
+    dy: usize,
+    pred: &mut [u16],
+)
+    requires { ⌜ (at + (h + reach t) * stride + (w + reach t) ≤ length (now s) + stride) × (h * w ≤ length (now pred)) ⌝ }
+    requires { ⌜ (isRowWidth w ≡ true) × (w ≤ 64) × (h ≤ sideOf t 64) × (dx < phases t) × (dy < phases t) ⌝ }
+    requires { ⌜ Within (now s) at stride (w + reach t) (h + reach t) ⌝ }
+    ensures { λ _. ⌜ now (pred .exit) ≡ withBlock (now (pred .entry)) 0 w w h (λ (y x : ℕ). interpolatedTwice t dx dy (now (s .entry)) (at + y * stride + x) stride) ⌝ }
+{
+    match t {
+        PlaneType::Y => {
+            let mut intermediate = [0u16; 552];
+            groups(t, s, at, stride, w, h, dx, dy, &mut intermediate, pred);
+        }
+        PlaneType::UV => {
+            let mut intermediate = [0u16; 280];
+            groups(t, s, at, stride, w, h, dx, dy, &mut intermediate, pred);
+        }
+    }
+}
+
+// ---- path, phase and place
+
+fn phase_count(t: PlaneType) -> i32
+    ensures { λ r. ⌜ r ≡ pos (phases t) ⌝ }
+{
+    match t {
+        PlaneType::Y => 4,
+        PlaneType::UV => 8,
+    }
+}
+
+fn place(t: PlaneType, z: i16) -> Pel
+    ensures { λ r. ⌜ r .0 ≡ placeOf t z ⌝ }
+{
+    match t {
+        PlaneType::Y => Pel((z as i32) >> 2),
+        PlaneType::UV => Pel((z as i32) >> 3),
+    }
+}
+
+fn phase(t: PlaneType, z: i16) -> usize
+    ensures { λ r. ⌜ r ≡ phaseOf t z ⌝ }
+{
+    (z as i32 - phase_count(t) * place(t, z).0) as usize
+}
+
+fn is_filtered(t: PlaneType, mv: i16) -> bool
+    ensures { λ r. ⌜ r ≡ isFiltered t mv ⌝ }
+{
+    phase(t, mv) != 0
+}
+
+fn lead(t: PlaneType) -> i32
+    ensures { λ r. ⌜ r ≡ pos (lead t) ⌝ }
+{
+    match t {
+        PlaneType::Y => 2,
+        PlaneType::UV => 1,
+    }
+}
+
+fn start(t: PlaneType, filtered: bool, z: i16) -> Pel
+    ensures { λ r. ⌜ r .0 ≡ startOf t filtered z ⌝ }
+{
+    let at = place(t, z);
+    if filtered { Pel(at.0 - lead(t)) } else { at }
+}
+
+fn window(t: PlaneType, pic_w: u32, pic_h: u32, across: bool, down: bool, gmv: EvcMv) -> usize
+    requires { ⌜ badPicture «pic_w» «pic_h» ≡ false ⌝ }
+    ensures { λ r. ⌜ r ≡ windowOf t «pic_w» «pic_h» across down gmv ⌝ }
+{
+    evc_plane::window_start(
+        t,
+        pic_w,
+        pic_h,
+        start(t, across, gmv.x),
+        start(t, down, gmv.y),
+    )
+}
