@@ -237,7 +237,7 @@ fn is_picture_side(n: u32) -> bool
     (4 <= n) & (n <= MAX_PIC_SIZE) & (n % 4 == 0)
 }
 
-fn is_block_side(n: u32) -> bool
+pub fn is_block_side(n: u32) -> bool
     ensures { λ r. ⌜ r ≡ isBlockSide n ⌝ }
 {
     (n == 4) | (n == 8) | (n == 16) | (n == 32) | (n == 64)

@@ -50,10 +50,10 @@ predicted k W H ori gmv s y x =
     let down = isFiltered k (ori .y) in
     sampleBy k across down (phaseOf k (gmv .x)) (phaseOf k (gmv .y)) s (windowOf k W H across down gmv + y * strideOf k W + x) (strideOf k W)
 
--- "A block has sides 4, 8, 16, 32 or 64": half of these in chroma
-unfoldable pub badSides : PlaneType → ℕ → ℕ → Bool
-badSides Y w h = not (isBlockSide w && isBlockSide h)
-badSides UV w h = not (isBlockSide (2 * w) && isBlockSide (2 * h))
+-- "A block has sides 4, 8, 16, 32 or 64", and half of these in chroma
+abbrev pub isSide : PlaneType → ℕ → Bool
+isSide Y n = isBlockSide n
+isSide UV n = eqb n 2 || eqb n 4 || eqb n 8 || eqb n 16 || eqb n 32
 
 -- "Samples examined for 6: from the clamped start of the two-direction path, w + 5 by h + 5 (chroma + 3)."
 unfoldable pub windowExceeds : PlaneType → ℕ → ℕ → EvcMv → ℕ → ℕ → List ℕ → Bool
@@ -64,7 +64,7 @@ unfoldable pub mcPlaneCode : PlaneType → ℕ → ℕ → EvcMv → ℕ → ℕ
 mcPlaneCode k W H gmv w h s d =
     firstOf
     (1 when badPicture W H
-    ∷ 2 when badSides k w h
+    ∷ 2 when not (isSide k w && isSide k h)
     ∷ 4 when (ltb (length s) (planeLen k W H) || ltb (length d) (w * h))
     ∷ 6 when windowExceeds k W H gmv w h s
     ∷ [])

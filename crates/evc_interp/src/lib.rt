@@ -5,10 +5,10 @@ ghost use lib.IntN.{ℤ, pos};
 ghost use lib.ListN.{length, getD};
 ghost use Rattle.evc_int.specs.Lists.{withRow, withBlock};
 ghost use Rattle.evc_def.specs.Blocks.{badPicture};
-ghost use Rattle.evc_plane.specs.Planes.{sideOf};
+ghost use Rattle.evc_plane.specs.Planes.{sideOf, planeLen};
 ghost use Rattle.evc_filter.specs.Filter.{phases, lead, reach, interpolated, interpolatedTwice};
 ghost use Rattle.evc_filter.specs.Code.{isRowWidth};
-ghost use Rattle.evc_interp.specs.Prediction.{phaseOf, placeOf, isFiltered, startOf, windowOf, predicted, badSides, windowExceeds, mcPlaneCode, mcPlaneAfter, Within};
+ghost use Rattle.evc_interp.specs.Prediction.{phaseOf, placeOf, isFiltered, startOf, windowOf, predicted, isSide, windowExceeds, mcPlaneCode, mcPlaneAfter, Within};
 use evc_def::EvcMv;
 use evc_def::Pel;
 use evc_plane::PlaneType;
@@ -274,4 +274,132 @@ fn window(t: PlaneType, pic_w: u32, pic_h: u32, across: bool, down: bool, gmv: E
         start(t, across, gmv.x),
         start(t, down, gmv.y),
     )
+}
+
+// ---- the call
+
+fn is_side(t: PlaneType, n: u32) -> bool
+    ensures { λ r. ⌜ r ≡ isSide t n ⌝ }
+{
+    match t {
+        PlaneType::Y => evc_def::is_block_side(n),
+        PlaneType::UV => (n == 2) | (n == 4) | (n == 8) | (n == 16) | (n == 32),
+    }
+}
+
+// On every path the window of both directions is examined.
+fn window_exceeds(
+    t: PlaneType,
+    pic_w: u32,
+    pic_h: u32,
+    gmv: EvcMv,
+    w: u32,
+    h: u32,
+    plane: &[u16],
+) -> bool
+    requires { ⌜ (badPicture «pic_w» «pic_h» ≡ false) × (isSide t w ≡ true) × (isSide t h ≡ true) ⌝ }
+    requires { ⌜ planeLen t «pic_w» «pic_h» ≤ length (now plane) ⌝ }
+    ensures { λ r. ⌜ r ≡ windowExceeds t «pic_w» «pic_h» gmv w h (now (plane .entry)) ⌝ }
+{
+    let c = evc_plane::plane_config(t, pic_w, pic_h);
+    let more = rows_more(t);
+    evc_plane::exceeds(
+        plane,
+        window(t, pic_w, pic_h, true, true, gmv),
+        c.stride,
+        w as usize + more,
+        h as usize + more,
+    )
+}
+
+fn mc_plane_code(
+    t: PlaneType,
+    pic_w: u32,
+    pic_h: u32,
+    gmv: EvcMv,
+    w: u32,
+    h: u32,
+    plane: &[u16],
+    pred: &[u16],
+) -> u32
+    ensures { λ r. ⌜ r ≡ mcPlaneCode t «pic_w» «pic_h» gmv w h (now (plane .entry)) (now (pred .entry)) ⌝ }
+{
+    if evc_def::bad_picture(pic_w, pic_h) {
+        return 1;
+    }
+    if !(is_side(t, w) & is_side(t, h)) {
+        return 2;
+    }
+    if (plane.len() < evc_plane::plane_len(t, pic_w, pic_h)) | (pred.len() < (w * h) as usize) {
+        return 4;
+    }
+    if window_exceeds(t, pic_w, pic_h, gmv, w, h, plane) {
+        return 6;
+    }
+    0
+}
+
+fn predict(
+    t: PlaneType,
+    pic_w: u32,
+    pic_h: u32,
+    ori_mv: EvcMv,
+    gmv: EvcMv,
+    w: usize,
+    h: usize,
+    plane: &[u16],
+    pred: &mut [u16],
+)
+    requires { ⌜ mcPlaneCode t «pic_w» «pic_h» gmv w h (now plane) (now pred) ≡ 0 ⌝ }
+    ensures { λ _. ⌜ now (pred .exit) ≡ withBlock (now (pred .entry)) 0 w w h (predicted t «pic_w» «pic_h» «ori_mv» gmv (now (plane .entry))) ⌝ }
+{
+    let c = evc_plane::plane_config(t, pic_w, pic_h);
+    let stride = c.stride;
+    let across = is_filtered(t, ori_mv.x);
+    let down = is_filtered(t, ori_mv.y);
+    let at = window(t, pic_w, pic_h, across, down, gmv);
+    let dx = phase(t, gmv.x);
+    let dy = phase(t, gmv.y);
+    match across {
+        false => match down {
+            false => evc_mc_00(plane, at, stride, w, h, pred),
+            true => evc_mc_0n(t, plane, at, stride, w, h, dy, pred),
+        },
+        true => match down {
+            false => evc_mc_n0(t, plane, at, stride, w, h, dx, pred),
+            true => evc_mc_nn(t, plane, at, stride, w, h, dx, dy, pred),
+        },
+    }
+}
+
+pub fn evc_mc_plane(
+    t: PlaneType,
+    pic_w: u32,
+    pic_h: u32,
+    ori_mv: EvcMv,
+    gmv: EvcMv,
+    w: u32,
+    h: u32,
+    plane: &[u16],
+    pred: &mut [u16],
+) -> u32
+    ensures { λ r. ⌜ r ≡ mcPlaneCode t «pic_w» «pic_h» gmv w h (now (plane .entry)) (now (pred .entry)) ⌝ }
+    ensures { λ _. ⌜ now (pred .exit) ≡ mcPlaneAfter t «pic_w» «pic_h» «ori_mv» gmv w h (now (plane .entry)) (now (pred .entry)) ⌝ }
+{
+    let code = mc_plane_code(t, pic_w, pic_h, gmv, w, h, plane, pred);
+    if code != 0 {
+        return code;
+    }
+    predict(
+        t,
+        pic_w,
+        pic_h,
+        ori_mv,
+        gmv,
+        w as usize,
+        h as usize,
+        plane,
+        pred,
+    );
+    0
 }

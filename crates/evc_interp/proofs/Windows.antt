@@ -1,0 +1,212 @@
+-- Every path reads only what was examined: its clamped window lies in that of both directions. Assumes nothing.
+use Rattle.evc_plane.specs.declared.PlaneConfig.{PlaneConfig}
+use Rattle.evc_plane.specs.Samples.{exceeds}
+use mathlib.Core.Bool.{Bool, true, false, cond, not, _&&_, _||_}
+use mathlib.Core.List.{List}
+use mathlib.Core.Logic.{⊎-elim}
+use mathlib.Core.Path.{_≡_, refl, sym, ap, ap₂, subst, _∙_}
+use Prim.Native.Nat.{ℕ, _+_, _-_, _*_, _≤_, _<_, min}
+use native.Mathlib.Nat.{add-mul}
+use native.Mathlib.Omega.{arith}
+use lib.Dec.{T, eqb, ltb, eqb→eq}
+use lib.IntN.{ℤ, pos, _+ℤ_}
+use lib.ListN.{length, getD}
+use lib.Signed.{ltZ}
+use borrow.Author.Tests.{ltb-false}
+use Rattle.evc_int.specs.Whole.{−_, _⁺, _⁻, clip3}
+use Rattle.evc_int.specs.Lists.{withBlock}
+use Rattle.evc_int.proofs.Whole.{Tested, under, not-under}
+use Rattle.evc_int.proofs.Expressions.{ !, _⊕_, neg, part⁺, tested-ex}
+use Rattle.evc_int.proofs.Division.{modulo-lt}
+use Rattle.evc_int.proofs.Lists.{withBlock-ext}
+use Rattle.evc_def.specs.Blocks.{badPicture}
+use Rattle.evc_def.specs.declared.EvcMv.{EvcMv}
+use Rattle.evc_def.proofs.Codes.{accepted, or-yes}
+use Rattle.evc_plane.specs.declared.PlaneType.{PlaneType}
+use Rattle.evc_plane.specs.declared.PlaneType.the-variants.{Y, UV}
+use Rattle.evc_plane.specs.Planes.{padOf, originOf, sideOf, strideOf, planeLen, configOf, startAt, windowStart}
+use Rattle.evc_plane.proofs.Laws.{window-fits}
+use Rattle.evc_plane.proofs.Samples.{exceeds-none}
+use Rattle.evc_plane.proofs.Sizes.{sizes}
+use Rattle.evc_filter.specs.Filter.{phases, lead, reach}
+use Rattle.evc_filter.specs.Code.{isRowWidth}
+use Rattle.evc_interp.specs.Prediction.{phaseOf, placeOf, isFiltered, startOf, windowOf, sampleBy, predicted, isSide, windowExceeds, mcPlaneCode, Within}
+
+pub all-true : (a b : Bool) → not (a && b) ≡ false → (a ≡ true) × (b ≡ true)
+all-true true true e = (refl, refl)
+all-true true false e = absurd (subst T e tt)
+all-true false b e = absurd (subst T e tt)
+
+pub none-true : (a b : Bool) → (a || b) ≡ false → (a ≡ false) × (b ≡ false)
+none-true true b e = absurd (subst T e tt)
+none-true false true e = absurd (subst T e tt)
+none-true false false e = (refl, refl)
+
+-- ---- a block's side
+
+pub record Side (k : PlaneType) (n : ℕ) : Type 0 where
+  pub high : n ≤ sideOf k 64
+  pub small : n ≤ 64
+  pub room : n + reach k ≤ padOf k
+  pub total : n + reach k ≤ 80
+  pub width : isRowWidth n ≡ true
+
+one-of : (P : ℕ → Type 0) (n a b c d e : ℕ) → (eqb n a || eqb n b || eqb n c || eqb n d || eqb n e) ≡ true → P a → P b → P c → P d → P e → P n
+one-of P n a b c d e h pa pb pc pd pe =
+    ⊎-elim
+    (λ t. ⊎-elim
+    (λ t. ⊎-elim
+    (λ t. ⊎-elim
+    (λ t. at a t pa)
+    (λ t. at b t pb) (or-yes (eqb n a) (eqb n b) t))
+    (λ t. at c t pc) (or-yes (eqb n a || eqb n b) (eqb n c) t))
+    (λ t. at d t pd) (or-yes (eqb n a || eqb n b || eqb n c) (eqb n d) t))
+    (λ t. at e t pe) (or-yes (eqb n a || eqb n b || eqb n c || eqb n d) (eqb n e) (subst T (sym h) tt))
+  where
+    at : (m : ℕ) → T (eqb n m) → P m → P n
+    at m t p = subst P (sym (eqb→eq n m t)) p
+
+pub side : (k : PlaneType) (n : ℕ) → isSide k n ≡ true → Side k n
+side Y n e = one-of (Side Y) n 4 8 16 32 64 e (of 4 (omega arith) refl) (of 8 (omega arith) refl) (of 16 (omega arith) refl) (of 32 (omega arith) refl) (of 64 (omega arith) refl)
+  where
+    of : (n : ℕ) → n ≤ 64 → isRowWidth n ≡ true → Side Y n
+    of n l e = record { high = l; small = l; room = omega arith; total = omega arith; width = e }
+side UV n e = one-of (Side UV) n 2 4 8 16 32 e (of 2 (omega arith) refl) (of 4 (omega arith) refl) (of 8 (omega arith) refl) (of 16 (omega arith) refl) (of 32 (omega arith) refl)
+  where
+    of : (n : ℕ) → n ≤ 32 → isRowWidth n ≡ true → Side UV n
+    of n l e = record { high = l; small = omega arith; room = omega arith; total = omega arith; width = e }
+
+-- ---- a start that is `m` less instead of `l` less, in one direction
+
+module _ (o n : ℕ) where
+  start-min : (z : ℤ) → startAt o n z ≡ min ((z +ℤ pos o) ⁺) (o + n)
+  unfolding startAt clip3
+  start-min z = go (ltZ z (− o)) (ltZ (pos n) z) (tested-ex (! z) (neg (! (pos o)))) (tested-ex (! (pos n)) (! z))
+    where
+      go : (a b : Bool) → Tested (z ⁺ + o) (0 + z ⁻) a → Tested (n + z ⁻) (z ⁺ + 0) b → (cond a (− o) (cond b (pos n) z) +ℤ pos o) ⁺ ≡ min ((z +ℤ pos o) ⁺) (o + n)
+      go true b (under x) y = omega (arith, part⁺ (neg (! (pos o)) ⊕ ! (pos o)), part⁺ (! z ⊕ ! (pos o)))
+      go false true (not-under x) (under y) = omega (arith, part⁺ (! (pos n) ⊕ ! (pos o)), part⁺ (! z ⊕ ! (pos o)))
+      go false false (not-under x) (not-under y) = omega (arith, part⁺ (! z ⊕ ! (pos o)))
+
+  nearer : (z : ℤ) (l m : ℕ) → m ≤ l → (startAt o n (z +ℤ (− l)) ≤ startAt o n (z +ℤ (− m))) × (startAt o n (z +ℤ (− m)) + m ≤ startAt o n (z +ℤ (− l)) + l)
+  nearer z l m h =
+      let a = start-min (z +ℤ (− l)) in
+      let b = start-min (z +ℤ (− m)) in
+      let p = part⁺ (! z ⊕ neg (! (pos l)) ⊕ ! (pos o)) in
+      let q = part⁺ (! z ⊕ neg (! (pos m)) ⊕ ! (pos o)) in
+      (omega arith, omega arith)
+
+  -- a path's start, from that of both directions
+  path-start : (k : PlaneType) (b : Bool) (z : ℤ) → (startAt o n (startOf k true z) ≤ startAt o n (startOf k b z)) × (startAt o n (startOf k b z) + cond b (lead k) 0 ≤ startAt o n (startOf k true z) + lead k)
+  unfolding startOf
+  path-start k b z = nearer (placeOf k z) (lead k) (cond b (lead k) 0) (low b)
+    where
+      low : (b : Bool) → cond b (lead k) 0 ≤ lead k
+      low true = omega arith
+      low false = omega arith
+
+-- the samples that a direction reaches further on, and those that its start lies further on
+further : (k : PlaneType) (b : Bool) → (cond b (reach k) 0 + lead k ≤ reach k + cond b (lead k) 0) × (cond b (reach k) 0 ≤ reach k)
+further Y true = (omega arith, omega arith)
+further Y false = (omega arith, omega arith)
+further UV true = (omega arith, omega arith)
+further UV false = (omega arith, omega arith)
+
+-- ---- an accepted call
+
+pub record Accepted (k : PlaneType) (W H : ℕ) (gmv : EvcMv) (w h : ℕ) (s d : List ℕ) : Type 0 where
+  pub picture : badPicture W H ≡ false
+  pub w-side : Side k w
+  pub h-side : Side k h
+  pub long : planeLen k W H ≤ length s
+  pub room : w * h ≤ length d
+  pub small : Within s (windowOf k W H true true gmv) (strideOf k W) (w + reach k) (h + reach k)
+
+pub accepts : (k : PlaneType) (W H : ℕ) (gmv : EvcMv) (w h : ℕ) (s d : List ℕ) → mcPlaneCode k W H gmv w h s d ≡ 0 → Accepted k W H gmv w h s d
+unfolding mcPlaneCode windowExceeds
+accepts k W H gmv w h s d e =
+    let a = accepted _ _ _ (omega arith) e in
+    let b = accepted _ _ _ (omega arith) (a .1) in
+    let c = accepted _ _ _ (omega arith) (b .1) in
+    let f = accepted _ _ _ (omega arith) (c .1) in
+    let t = all-true (isSide k w) (isSide k h) (b .0) in
+    let l = none-true (ltb (length s) (planeLen k W H)) (ltb (length d) (w * h)) (c .0) in
+    record {
+      picture = a .0;
+      w-side = side k w (t .0);
+      h-side = side k h (t .1);
+      long = ltb-false (length s) (planeLen k W H) (l .0);
+      room = ltb-false (length d) (w * h) (l .1);
+      small = exceeds-none s _ _ _ _ (f .0);
+    }
+
+-- ---- what a path asks: its window lies in the plane, and no sample of it is above 1023
+
+module _ (k : PlaneType) (W H : ℕ) (gmv : EvcMv) (w h : ℕ) (s d : List ℕ) (g : Accepted k W H gmv w h s d) (across down : Bool) where
+  in-window : (n m : ℕ) → n ≤ w + cond across (reach k) 0 → m ≤ h + cond down (reach k) 0 → Within s (windowOf k W H across down gmv) (strideOf k W) n m
+  unfolding windowOf windowStart
+  in-window n m ln lm y x ly lx =
+      let S = strideOf k W in
+      let r₀ = startAt (padOf k) (sideOf k H) (startOf k true (gmv .y)) in
+      let c₀ = startAt (originOf k) (sideOf k W) (startOf k true (gmv .x)) in
+      let r = startAt (padOf k) (sideOf k H) (startOf k down (gmv .y)) in
+      let c = startAt (originOf k) (sideOf k W) (startOf k across (gmv .x)) in
+      let a = path-start (originOf k) (sideOf k W) k across (gmv .x) in
+      let b = path-start (padOf k) (sideOf k H) k down (gmv .y) in
+      let p = further k across in
+      let q = further k down in
+      let e : r ≡ r₀ + (r - r₀) = omega arith in
+      let i : r₀ * S + c₀ + (y + (r - r₀)) * S + (x + (c - c₀)) ≡ r * S + c + y * S + x = omega (arith, add-mul y (r - r₀) S, add-mul r₀ (r - r₀) S, ap (λ (j : ℕ). j * S) e) in
+      subst (λ (j : ℕ). getD s j 0 ≤ 1023) i (g .small (y + (r - r₀)) (x + (c - c₀)) (omega arith) (omega arith))
+
+  in-plane : (n m : ℕ) → n ≤ w + cond across (reach k) 0 → m ≤ h + cond down (reach k) 0 → windowOf k W H across down gmv + m * strideOf k W + n ≤ length s + strideOf k W
+  unfolding windowOf
+  in-plane n m ln lm =
+      let p = further k across in
+      let q = further k down in
+      let a = g .w-side .room in
+      let b = g .h-side .room in
+      let l = g .long in
+      omega (arith, window-fits k W H (g .picture) (startOf k across (gmv .x)) (startOf k down (gmv .y)) n m (omega arith) (omega arith))
+
+  -- of the index and the stride that the code has
+  pub path-asks : (at S : ℕ) → at ≡ windowOf k W H across down gmv → S ≡ strideOf k W → (n m : ℕ) → n ≤ w + cond across (reach k) 0 → m ≤ h + cond down (reach k) 0
+      → (at + m * S + n ≤ length s + S) × Within s at S n m
+  path-asks at S e f n m ln lm = rw (e, f) (in-plane n m ln lm, in-window n m ln lm)
+
+pub stride-small : (k : PlaneType) (W H S : ℕ) → S ≡ strideOf k W → badPicture W H ≡ false → S ≤ 65535
+unfolding configOf
+stride-small k W H S f e = omega (arith, sizes k W H e .stride-top)
+
+pub phase-small : (k : PlaneType) (z : ℤ) (n : ℕ) → n ≡ phaseOf k z → n < phases k
+unfolding phaseOf
+phase-small k z n e = subst (λ (n : ℕ). n < phases k) (sym e) (modulo-lt (phases k) z (some k))
+  where
+    some : (k : PlaneType) → 0 < phases k
+    some Y = omega arith
+    some UV = omega arith
+
+-- ---- what a path gives, by the bits that it was chosen by
+
+pub path-gives : (k : PlaneType) (W H : ℕ) (ori gmv : EvcMv) (w h : ℕ) (s d : List ℕ) (across down : Bool) (at S dx dy : ℕ)
+    → across ≡ isFiltered k (ori .x) → down ≡ isFiltered k (ori .y) → at ≡ windowOf k W H across down gmv → S ≡ strideOf k W → dx ≡ phaseOf k (gmv .x) → dy ≡ phaseOf k (gmv .y)
+    → withBlock d 0 w w h (λ (y x : ℕ). sampleBy k across down dx dy s (at + y * S + x) S) ≡ withBlock d 0 w w h (predicted k W H ori gmv s)
+unfolding predicted
+path-gives k W H ori gmv w h s d across down at S dx dy ea ed e f ex ey =
+    withBlock-ext d 0 w w h _ _ (λ y x ly lx. rw (e, f, ex, ey) (ap₂ (λ (a b : Bool). sampleBy k a b (phaseOf k (gmv .x)) (phaseOf k (gmv .y)) s (windowOf k W H a b gmv + y * strideOf k W + x) (strideOf k W)) ea ed))
+
+-- ---- what the checks ask and give
+
+pub stride-is : (k : PlaneType) (W H : ℕ) (c : PlaneConfig) → c ≡ configOf k W H → c .stride ≡ strideOf k W
+unfolding configOf
+stride-is k W H c e = ap (λ (c : PlaneConfig). c .stride) e
+
+pub examined-fits : (k : PlaneType) (W H : ℕ) (gmv : EvcMv) (w h : ℕ) (s : List ℕ) (at S r : ℕ) → badPicture W H ≡ false → Side k w → Side k h → planeLen k W H ≤ length s
+    → at ≡ windowOf k W H true true gmv → S ≡ strideOf k W → r ≡ reach k → at + (h + r) * S + (w + r) ≤ length s + S
+unfolding windowOf
+examined-fits k W H gmv w h s at S r good sw sh l e f g =
+    rw (e, f, g) (omega (arith, window-fits k W H good (startOf k true (gmv .x)) (startOf k true (gmv .y)) (w + reach k) (h + reach k) (sw .room) (sh .room)))
+
+pub examined-is : (k : PlaneType) (W H : ℕ) (gmv : EvcMv) (w h : ℕ) (s : List ℕ) (at S r : ℕ) → at ≡ windowOf k W H true true gmv → S ≡ strideOf k W → r ≡ reach k → exceeds s at S (w + r) (h + r) ≡ windowExceeds k W H gmv w h s
+unfolding windowExceeds
+examined-is k W H gmv w h s at S r e f g = rw (e, f, g)
