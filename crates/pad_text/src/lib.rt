@@ -34,7 +34,7 @@ fn next(z: u64) -> u64
     (z * 1103515245 + 12345) % 2147483648
 }
 
-fn scatter(plane: &mut [u16], n: usize, seed: u64)
+pub fn scatter(plane: &mut [u16], n: usize, seed: u64)
     requires { ⌜ (n ≤ length (now plane)) × (seed < 2147483648) ⌝ }
 {
     let mut z = seed;
@@ -44,7 +44,7 @@ fn scatter(plane: &mut [u16], n: usize, seed: u64)
     }
 }
 
-fn reduce_row(plane: &mut [u16], at: usize, n: usize, limit: u16)
+pub fn reduce_row(plane: &mut [u16], at: usize, n: usize, limit: u16)
     requires { ⌜ (at + n ≤ length (now plane)) × (0 < limit) ⌝ }
 {
     for x in 0..n {
@@ -62,7 +62,7 @@ fn reduce(plane: &mut [u16], at: usize, stride: usize, n: usize, h: usize, limit
 
 // ---- what is printed
 
-fn wide(x: u16) -> u64
+pub fn wide(x: u16) -> u64
     ensures { λ r. ⌜ r < 65536 ⌝ }
 {
     x as u64
@@ -90,7 +90,7 @@ fn print_samples(s: &[u16], at: usize, n: usize)
 }
 
 // A number that depends on every sample and its place: a polynomial of the samples at 257, modulo a prime.
-fn hash(s: &[u16], at: usize, n: usize) -> u64
+pub fn hash(s: &[u16], at: usize, n: usize) -> u64
     requires { ⌜ at + n ≤ length (now s) ⌝ }
 {
     let mut z = 1u64;
@@ -160,7 +160,7 @@ fn run_record(plane: &mut [u16], t: PlaneType, r: Record, whole: bool)
     print_row(plane, len, r.spare, whole);
 }
 
-fn byte(b: u8) -> u16
+pub fn byte(b: u8) -> u16
     ensures { λ r. ⌜ r < 256 ⌝ }
 {
     b as u16

@@ -1,6 +1,6 @@
-//! The three calls of util.rs as document 01 tells them, refusals included. Written from its
-//! sentences, which are quoted, and not from the Rust: samples and whole numbers, one unit at a
-//! time.
+//! The three calls of util.rs and one-plane prediction as document 01 tells them, refusals
+//! included. Written from its sentences, which are quoted, and not from the Rust: samples and
+//! whole numbers, one unit or one sample at a time.
 
 pub type Mv = [i16; 2];
 
@@ -28,13 +28,14 @@ pub struct Pocs {
     pub list_poc0: u32,
 }
 
+/// "Picture sides W and H are multiples of 4 from 4 to 8128."
+fn is_picture_refused(pic: [u32; 2]) -> bool {
+    !pic.iter().all(|n| n % 4 == 0 && (4..=8128).contains(n))
+}
+
 impl Block {
-    /// "Picture sides W and H are multiples of 4 from 4 to 8128."
     fn is_picture_refused(&self) -> bool {
-        !self
-            .pic
-            .iter()
-            .all(|n| n % 4 == 0 && (4..=8128).contains(n))
+        is_picture_refused(self.pic)
     }
 
     /// "A block has sides 4, 8, 16, 32 or 64, chosen separately; its place is a multiple of 4; it
@@ -199,4 +200,206 @@ pub fn direct(b: &Block, pocs: Pocs, col: Collocated) -> (u32, [Mv; 2]) {
     let first = v.map(|v| kept((count - count0) * v / co));
     let second = v.map(|v| kept(-(count1 - count) * v / co));
     (0, [first, second])
+}
+
+/// A call on one plane; each pair is across, down.
+#[derive(Clone, Copy, Debug)]
+pub struct OnePlane {
+    pub chroma: bool,
+    pub pic: [u32; 2],
+    pub ori_mv: Mv,
+    pub gmv: Mv,
+    pub side: [u32; 2],
+}
+
+impl OnePlane {
+    /// "Luma pad 80, chroma pad 40. The left origin is the pad rounded up to a multiple of 16: 80
+    /// and 48."
+    pub fn origin(&self) -> [i64; 2] {
+        if self.chroma {
+            [48, 40]
+        } else {
+            [80, 80]
+        }
+    }
+
+    /// "chroma planes have half of each"
+    pub fn size(&self) -> [i64; 2] {
+        let part = 1 + i64::from(self.chroma);
+        self.pic.map(|n| i64::from(n) / part)
+    }
+
+    /// "Stride is left origin + width + pad, rounded up to 16."
+    fn stride(&self) -> i64 {
+        let ([left, pad], [width, _]) = (self.origin(), self.size());
+        (left + width + pad + 15) / 16 * 16
+    }
+
+    /// "a plane, stride × rows", "Rows: pad + height + pad."
+    pub fn plane_len(&self) -> usize {
+        let ([_, pad], [_, height]) = (self.origin(), self.size());
+        (self.stride() * (pad + height + pad)) as usize
+    }
+
+    /// "a one-plane block, its width × height"
+    pub fn block_len(&self) -> usize {
+        self.side.iter().map(|n| *n as usize).product()
+    }
+
+    /// "One-plane prediction takes these sides for luma and half of them for chroma"
+    fn is_block_refused(&self) -> bool {
+        let part = 1 + u32::from(self.chroma);
+        let allowed = [4, 8, 16, 32, 64].map(|side| side / part);
+        !self.side.iter().all(|side| allowed.contains(side))
+    }
+
+    /// The sample that the plane holds for column i and row j of the picture.
+    fn held(&self, plane: &[u16], i: i64, j: i64) -> i64 {
+        let [left, pad] = self.origin();
+        i64::from(plane[((pad + j) * self.stride() + left + i) as usize])
+    }
+
+    /// Fractions of a sample that a position counts: "its low 2 bits, and the position >> 2; chroma 3"
+    pub fn parts(&self) -> i64 {
+        if self.chroma {
+            8
+        } else {
+            4
+        }
+    }
+
+    pub fn phase(&self) -> [i64; 2] {
+        self.gmv.map(|v| i64::from(v).rem_euclid(self.parts()))
+    }
+
+    fn place(&self) -> [i64; 2] {
+        self.gmv.map(|v| i64::from(v).div_euclid(self.parts()))
+    }
+
+    /// Directions that are filtered: "the path comes from the original vector's low 2 bits (chroma 3)"
+    pub fn path(&self) -> [bool; 2] {
+        self.ori_mv.map(|v| i64::from(v) % self.parts() != 0)
+    }
+
+    /// Samples before the place, and after it, that a filter takes.
+    pub fn reach(&self) -> [i64; 2] {
+        if self.chroma {
+            [1, 2]
+        } else {
+            [2, 3]
+        }
+    }
+
+    /// "Paths start at the place less 2 (chroma 1) in a filtered direction; `PlaneSlice::clamp` then
+    /// holds the start between minus the origin and the plane's size."
+    fn start(&self, path: [bool; 2]) -> [i64; 2] {
+        let (place, origin, size) = (self.place(), self.origin(), self.size());
+        [0, 1].map(|d| {
+            let before = if path[d] { self.reach()[0] } else { 0 };
+            (place[d] - before).max(-origin[d]).min(size[d])
+        })
+    }
+
+    /// A row of the fixed filters. The later phases are the earlier ones backward.
+    fn taps(&self, phase: i64) -> Vec<i64> {
+        let k = phase.min(self.parts() - phase);
+        let mut taps = if self.chroma {
+            vec![-2 * k, 64 - 6 * k, 10 * k, -2 * k]
+        } else {
+            vec![k, -5 * k, 64 - 12 * k, 20 * k, -5 * k, k]
+        };
+        if 2 * phase > self.parts() {
+            taps.reverse();
+        }
+        taps
+    }
+
+    /// "rows first, sum >> 2, then columns, (sum + 512) >> 10", over any samples.
+    fn two_stages(&self, at: impl Fn(i64, i64) -> i64) -> Vec<u16> {
+        let [across, down] = self.phase().map(|phase| self.taps(phase));
+        let [w, h] = self.side.map(|n| n as usize);
+        let rows: Vec<Vec<i64>> = (0..h + down.len() - 1)
+            .map(|r| {
+                let first = |c| sum(&across, |k| at((c + k) as i64, r as i64)).div_euclid(4);
+                (0..w).map(first).collect()
+            })
+            .collect();
+        let second =
+            |(c, r): (usize, usize)| (sum(&down, |k| rows[r + k][c]) + 512).div_euclid(1024);
+        places(w, h).map(|place| hold(second(place))).collect()
+    }
+
+    /// The block that the path gives.
+    fn block(&self, plane: &[u16]) -> Vec<u16> {
+        let [x, y] = self.start(self.path());
+        let at = |i, j| self.held(plane, x + i, y + j);
+        let [across, down] = self.phase().map(|phase| self.taps(phase));
+        let [w, h] = self.side.map(|n| n as usize);
+        // "One direction: (sum + 32) >> 6."
+        let one = |sum: i64| hold((sum + 32).div_euclid(64));
+        let places = places(w, h);
+        match self.path() {
+            [false, false] => places.map(|(c, r)| at(c as i64, r as i64) as u16).collect(),
+            [true, false] => places
+                .map(|(c, r)| one(sum(&across, |k| at((c + k) as i64, r as i64))))
+                .collect(),
+            [false, true] => places
+                .map(|(c, r)| one(sum(&down, |k| at(c as i64, (r + k) as i64))))
+                .collect(),
+            [true, true] => self.two_stages(at),
+        }
+    }
+
+    /// "Samples examined for 6: from the clamped start of the two-direction path, w + 5 by h + 5
+    /// (chroma + 3)."
+    fn is_sample_refused(&self, plane: &[u16]) -> bool {
+        let [x, y] = self.start([true; 2]);
+        let more = if self.chroma { 3 } else { 5 };
+        let [w, h] = self.side.map(|n| n as usize + more);
+        places(w, h).any(|(c, r)| self.held(plane, x + c as i64, y + r as i64) > 1023)
+    }
+
+    /// The definition that demand 3 compares: "The general filter always runs both stages", over the
+    /// picture prolonged without end.
+    pub fn general(&self, plane: &[u16]) -> Vec<u16> {
+        let ([x, y], [pw, ph]) = (self.place(), self.size());
+        let before = self.reach()[0];
+        self.two_stages(|i, j| {
+            let i = (x + i - before).max(0).min(pw - 1);
+            let j = (y + j - before).max(0).min(ph - 1);
+            self.held(plane, i, j)
+        })
+    }
+}
+
+/// Columns and rows of a block, row after row.
+fn places(w: usize, h: usize) -> impl Iterator<Item = (usize, usize)> {
+    (0..h).flat_map(move |r| (0..w).map(move |c| (c, r)))
+}
+
+fn sum(taps: &[i64], sample: impl Fn(usize) -> i64) -> i64 {
+    let products = taps.iter().enumerate().map(|(k, tap)| tap * sample(k));
+    products.sum()
+}
+
+/// "Filtered results are held to 0..1023."
+fn hold(value: i64) -> u16 {
+    value.max(0).min(1023) as u16
+}
+
+/// 'One plane': the number returned; `pred` becomes what it holds afterwards.
+pub fn one_plane(c: &OnePlane, plane: &[u16], pred: &mut [u16]) -> u32 {
+    let code = first_refusal(&[
+        (1, is_picture_refused(c.pic)),
+        (2, c.is_block_refused()),
+        (4, plane.len() < c.plane_len() || pred.len() < c.block_len()),
+    ]);
+    if code != 0 {
+        return code;
+    }
+    if c.is_sample_refused(plane) {
+        return 6;
+    }
+    pred[..c.block_len()].copy_from_slice(&c.block(plane));
+    0
 }

@@ -1,8 +1,8 @@
 //! Writes the fixed lists into a directory: inputs, and the answers that the Rust gives.
 
-use oracle::cases::{clip, corners, Component, Padding, Rng};
+use oracle::cases::{clip, corners, hash, Component, Padding, Rng};
 use oracle::plane_config;
-use oracle::util_lists;
+use oracle::{mc_lists, util_lists};
 use std::fmt::Write;
 use std::path::Path;
 use std::{env, fs, io};
@@ -70,11 +70,6 @@ fn pad_records() -> Vec<Padding> {
     records
 }
 
-/// What the padding program prints for a row: a number that depends on each sample and its place.
-fn hash(row: &[u16]) -> u64 {
-    row.iter().fold(1, |z, &x| (z * 257 + u64::from(x)) % 65521)
-}
-
 fn write_pad(dir: &Path) -> io::Result<()> {
     let mut records = Vec::new();
     let mut answers = String::new();
@@ -106,11 +101,12 @@ fn write_mv_clip(dir: &Path) -> io::Result<()> {
         writeln!(answers, "0 {mvx} {mvy}").unwrap();
     }
     fs::write(dir.join("mv_clip.records"), records)?;
-    fs::write(dir.join("mv_clip.answers"), answers)?;
-    for (name, [records, answers]) in [
-        ("util", util_lists::accepted()),
-        ("util_bad", util_lists::bad()),
-    ] {
+    fs::write(dir.join("mv_clip.answers"), answers)
+}
+
+/// Lists that come with their answers.
+fn write_lists(dir: &Path, lists: [(&str, [Vec<u8>; 2]); 2]) -> io::Result<()> {
+    for (name, [records, answers]) in lists {
         fs::write(dir.join(format!("{name}.records")), records)?;
         fs::write(dir.join(format!("{name}.answers")), answers)?;
     }
@@ -119,14 +115,20 @@ fn write_mv_clip(dir: &Path) -> io::Result<()> {
 
 /// Calls of util.rs: the Rust's answers, and refusals by document 01.
 fn write_util(dir: &Path) -> io::Result<()> {
-    for (name, [records, answers]) in [
+    let lists = [
         ("util", util_lists::accepted()),
         ("util_bad", util_lists::bad()),
-    ] {
-        fs::write(dir.join(format!("{name}.records")), records)?;
-        fs::write(dir.join(format!("{name}.answers")), answers)?;
-    }
-    Ok(())
+    ];
+    write_lists(dir, lists)
+}
+
+/// Calls on one plane, likewise.
+fn write_mc_plane(dir: &Path) -> io::Result<()> {
+    let lists = [
+        ("mc_plane", mc_lists::accepted()),
+        ("mc_plane_bad", mc_lists::bad()),
+    ];
+    write_lists(dir, lists)
 }
 
 fn main() -> io::Result<()> {
@@ -135,5 +137,6 @@ fn main() -> io::Result<()> {
     fs::create_dir_all(dir)?;
     write_mv_clip(dir)?;
     write_pad(dir)?;
-    write_util(dir)
+    write_util(dir)?;
+    write_mc_plane(dir)
 }

@@ -18,11 +18,17 @@ pub fn plane_config(chroma: bool, pic_w: usize, pic_h: usize) -> PlaneConfig {
     plane(chroma, pic_w, pic_h).cfg
 }
 
-/// `Plane::pad` over a plane that holds `samples`, and as many as it needs of them.
-pub fn pad(chroma: bool, pic_w: usize, pic_h: usize, samples: &mut [u16]) {
+/// A plane that holds `samples`, as many as it needs of them.
+pub fn plane_of(chroma: bool, pic_w: usize, pic_h: usize, samples: &[u16]) -> Plane<u16> {
     let mut plane = plane(chroma, pic_w, pic_h);
-    let held = &mut samples[..plane.data.len()];
-    plane.data.copy_from_slice(held);
+    let len = plane.data.len();
+    plane.data.copy_from_slice(&samples[..len]);
+    plane
+}
+
+/// `Plane::pad` over a plane that holds `samples`.
+pub fn pad(chroma: bool, pic_w: usize, pic_h: usize, samples: &mut [u16]) {
+    let mut plane = plane_of(chroma, pic_w, pic_h, samples);
     plane.pad();
-    held.copy_from_slice(&plane.data);
+    samples[..plane.data.len()].copy_from_slice(&plane.data);
 }
