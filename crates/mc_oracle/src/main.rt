@@ -1,3 +1,3 @@
 fn main() {
-    mc_text::run();
+    mc_text::run(false);
 }

@@ -69,8 +69,26 @@ fn print_answer(code: u32, hash: u64) {
     io::write_all(STDOUT_FILENO, b"\n");
 }
 
-// The block holds arbitrary samples first; the answer has a number for all of it.
-fn run_block(t: PlaneType, pic_w: u32, pic_h: u32, plane: &[u16], r: &Record, pred: &mut [u16]) {
+// The answer and the block, row after row.
+fn print_block(code: u32, pred: &[u16], w: u16, h: u16) {
+    pad_text::print_number(code as u64);
+    let stride = w as usize;
+    let rows = h as usize;
+    if stride * rows <= pred.len() {
+        pad_text::print_rows(pred, stride, rows, true);
+    }
+}
+
+// The block holds arbitrary samples first; printed is all of it, or a number for all of it.
+fn run_block(
+    t: PlaneType,
+    pic_w: u32,
+    pic_h: u32,
+    plane: &[u16],
+    r: &Record,
+    pred: &mut [u16],
+    whole: bool,
+) {
     let n = pred.len();
     pad_text::scatter(pred, n, pad_text::wide(number(r, BLOCK_SEED)));
     let code = evc_interp::evc_mc_plane(
@@ -84,13 +102,17 @@ fn run_block(t: PlaneType, pic_w: u32, pic_h: u32, plane: &[u16], r: &Record, pr
         plane,
         pred,
     );
-    print_answer(code, pad_text::hash(pred, 0, n));
+    if whole {
+        print_block(code, pred, number(r, W), number(r, H));
+    } else {
+        print_answer(code, pad_text::hash(pred, 0, n));
+    }
 }
 
-fn run_call(t: PlaneType, pic_w: u32, pic_h: u32, plane: &[u16], r: &Record) {
+fn run_call(t: PlaneType, pic_w: u32, pic_h: u32, plane: &[u16], r: &Record, whole: bool) {
     let mut pred = [0u16; MAX_BLOCK_LEN];
     let n = lent(r, BLOCK_LEN, MAX_BLOCK_LEN);
-    run_block(t, pic_w, pic_h, plane, r, &mut pred[..n]);
+    run_block(t, pic_w, pic_h, plane, r, &mut pred[..n], whole);
 }
 
 // ---- a plane with its calls, and all of them
@@ -128,7 +150,7 @@ fn make_plane(t: PlaneType, plane: &mut [u16], n: usize, r: &Record)
 }
 
 // The calls that follow; at the end of the input there are no more.
-fn run_calls(t: PlaneType, plane: &[u16], r: &Record) {
+fn run_calls(t: PlaneType, plane: &[u16], r: &Record, whole: bool) {
     for i in 0..number(r, CALLS) {
         let mut call = [0u8; RECORD_LEN];
         if io::read_full(STDIN_FILENO, &mut call) < RECORD_LEN {
@@ -140,32 +162,33 @@ fn run_calls(t: PlaneType, plane: &[u16], r: &Record) {
             number(r, PIC_H) as u32,
             plane,
             &call,
+            whole,
         );
     }
 }
 
-fn run_plane(t: PlaneType, plane: &mut [u16], r: &Record) {
+fn run_plane(t: PlaneType, plane: &mut [u16], r: &Record, whole: bool) {
     let n = lent(r, PLANE_LEN, plane.len());
     make_plane(t, plane, n, r);
-    run_calls(t, &plane[..n], r);
+    run_calls(t, &plane[..n], r, whole);
 }
 
-fn run_record(plane: &mut [u16], r: &Record) {
+fn run_record(plane: &mut [u16], r: &Record, whole: bool) {
     if number(r, IS_CHROMA) == 0 {
-        run_plane(PlaneType::Y, plane, r);
+        run_plane(PlaneType::Y, plane, r, whole);
     } else {
-        run_plane(PlaneType::UV, plane, r);
+        run_plane(PlaneType::UV, plane, r, whole);
     }
 }
 
 // Planes, each with its calls, from standard input.
-pub fn run() {
+pub fn run(whole: bool) {
     let mut plane = [0u16; MAX_PLANE_LEN];
     for i in 0..MAX_PLANES {
         let mut r = [0u8; RECORD_LEN];
         if io::read_full(STDIN_FILENO, &mut r) < RECORD_LEN {
             return;
         }
-        run_record(&mut plane, &r);
+        run_record(&mut plane, &r, whole);
     }
 }

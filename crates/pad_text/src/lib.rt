@@ -68,7 +68,7 @@ pub fn wide(x: u16) -> u64
     x as u64
 }
 
-fn print_number(n: u64) {
+pub fn print_number(n: u64) {
     io::print_decimal(STDOUT_FILENO, n);
     io::write_all(STDOUT_FILENO, b"\n");
 }
@@ -110,7 +110,7 @@ fn print_row(s: &[u16], at: usize, n: usize, whole: bool)
     }
 }
 
-fn print_rows(s: &[u16], stride: usize, h: usize, whole: bool)
+pub fn print_rows(s: &[u16], stride: usize, h: usize, whole: bool)
     requires { ⌜ stride * h ≤ length (now s) ⌝ }
 {
     for y in 0..h {

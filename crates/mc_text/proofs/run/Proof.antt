@@ -8,10 +8,10 @@ use Rattle.mc_text.proofs.run.Statement.{statement}
 use Rattle.mc_text.proofs.run.Tie as tie
 
 abbrev Inv-loop : tie.InvT-loop
-Inv-loop plane₀ i₀ plane i = (i ≤ 64) × (length plane ≡ 65536)
+Inv-loop whole plane₀ i₀ plane i = (i ≤ 64) × (length plane ≡ 65536)
 
 abbrev μ-loop : tie.MeasureT-loop
-μ-loop plane₀ i₀ plane i = 64 - i
+μ-loop whole plane₀ i₀ plane i = 64 - i
 
 pub run-spec : {M : Type 1} → statement M
 run-spec =

@@ -6,10 +6,10 @@ use Rattle.mc_text.proofs.run_calls.Statement.{statement}
 use Rattle.mc_text.proofs.run_calls.Tie as tie
 
 abbrev Inv-loop : tie.InvT-loop
-Inv-loop t plane r i₀ i-end i = i ≤ i-end
+Inv-loop t plane r whole i₀ i-end i = i ≤ i-end
 
 abbrev μ-loop : tie.MeasureT-loop
-μ-loop t plane r i₀ i-end i = i-end - i
+μ-loop t plane r whole i₀ i-end i = i-end - i
 
 pub run-calls-spec : {M : Type 1} → statement M
 run-calls-spec =

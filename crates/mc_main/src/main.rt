@@ -1,0 +1,3 @@
+fn main() {
+    mc_text::run(true);
+}
