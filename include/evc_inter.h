@@ -16,6 +16,9 @@ typedef struct { uint32_t code; EvcMv mv; } EvcClipped;
 typedef struct { uint32_t code; EvcMv mv0, mv1; } EvcDirect;
 typedef struct { EvcMv left, up, up_right, collocated; int8_t refi[4]; } EvcCandidates;
 
+/* Border step: fills the border of one plane in place. 1, 4, 6. */
+uint32_t evc_pad(bool chroma, uint32_t pic_w, uint32_t pic_h, uint16_t *plane, size_t plane_len);
+
 /* Neighbour flags. 1, 2, 4. */
 EvcAvail evc_get_avail_inter(EvcBlock block, const uint32_t *map_scu, size_t map_scu_len);
 
@@ -29,4 +32,8 @@ EvcDirect evc_get_mv_dir(EvcBlock block, uint32_t poc, uint32_t poc0, uint32_t p
 
 /* Clipping of one vector. 1, 2. */
 EvcClipped evc_mv_clip(EvcBlock block, EvcMv mv);
+
+/* One plane: path from ori_mv, phase and place from gmv. 1, 2, 4, 6. */
+uint32_t evc_mc_plane(bool chroma, uint32_t pic_w, uint32_t pic_h, EvcMv ori_mv, EvcMv gmv, uint32_t w, uint32_t h,
+                      const uint16_t *plane, size_t plane_len, uint16_t *pred, size_t pred_len);
 #endif

@@ -4,13 +4,32 @@ ghost use Rattle.evc_clip.specs.Clip.{mvClip};
 ghost use Rattle.evc_util.specs.Flags.{getAvailInter};
 ghost use Rattle.evc_util.specs.Direct.{getMvDir};
 ghost use Rattle.evc_util.specs.Candidates.{getMotion};
+ghost use Rattle.evc_plane.specs.Padding.{padCode, padAfter};
+ghost use Rattle.evc_interp.specs.Prediction.{mcPlaneCode, mcPlaneAfter};
+ghost use Rattle.evc_inter.specs.Kinds.{planeType};
 use evc_clip::EvcClipped;
 use evc_def::EvcBlock;
 use evc_def::EvcMv;
+use evc_plane::PlaneType;
 use evc_util::EvcAvail;
 use evc_util::EvcCandidates;
 use evc_util::EvcDirect;
 use evc_util::Pocs;
+
+fn plane_type(chroma: bool) -> PlaneType
+    ensures { λ r. ⌜ r ≡ planeType chroma ⌝ }
+{
+    if chroma { PlaneType::UV } else { PlaneType::Y }
+}
+
+// The border of one plane, in place.
+#[no_mangle]
+pub extern "C" fn evc_pad(chroma: bool, pic_w: u32, pic_h: u32, plane: &mut [u16]) -> u32
+    ensures { λ r. ⌜ r ≡ padCode (planeType chroma) «pic_w» «pic_h» (now (plane .entry)) ⌝ }
+    ensures { λ _. ⌜ now (plane .exit) ≡ padAfter (planeType chroma) «pic_w» «pic_h» (now (plane .entry)) ⌝ }
+{
+    evc_plane::pad(plane_type(chroma), pic_w, pic_h, plane)
+}
 
 // Neighbour flags.
 #[no_mangle]
@@ -67,4 +86,33 @@ pub extern "C" fn evc_get_motion(
     let r = evc_util::get_motion(block, lidx, avail, map_mv, has_col, col_mv, *cand);
     *cand = r.cand;
     r.code
+}
+
+// The prediction of a block of one plane.
+#[no_mangle]
+pub extern "C" fn evc_mc_plane(
+    chroma: bool,
+    pic_w: u32,
+    pic_h: u32,
+    ori_mv: EvcMv,
+    gmv: EvcMv,
+    w: u32,
+    h: u32,
+    plane: &[u16],
+    pred: &mut [u16],
+) -> u32
+    ensures { λ r. ⌜ r ≡ mcPlaneCode (planeType chroma) «pic_w» «pic_h» gmv w h (now (plane .entry)) (now (pred .entry)) ⌝ }
+    ensures { λ _. ⌜ now (pred .exit) ≡ mcPlaneAfter (planeType chroma) «pic_w» «pic_h» «ori_mv» gmv w h (now (plane .entry)) (now (pred .entry)) ⌝ }
+{
+    evc_interp::evc_mc_plane(
+        plane_type(chroma),
+        pic_w,
+        pic_h,
+        ori_mv,
+        gmv,
+        w,
+        h,
+        plane,
+        pred,
+    )
 }
