@@ -33,12 +33,11 @@ fn evc_mc_00(s: &[u16], at: usize, stride: usize, w: usize, h: usize, pred: &mut
     }
 }
 
-// 1, by a sum that the optimizer does not know: see evc_filter's blocks.
-fn unit(h: usize) -> usize
-    requires { ⌜ h < 128 ⌝ }
+// 1, by a sum that the optimizer does not know: see evc_filter's blocks. It knows the sides, but no bound of a length.
+fn unit(s: &[u16]) -> usize
     ensures { λ r. ⌜ r ≡ 1 ⌝ }
 {
-    1 + h / 128
+    1 + s.len() / 0x8000000000000000
 }
 
 // MC_IBUF_PAD_L, MC_IBUF_PAD_C: how many rows more the first stage has.
@@ -61,7 +60,7 @@ fn evc_mc_n0(
     dx: usize,
     pred: &mut [u16],
 )
-    requires { ⌜ (at + h * stride + (w + reach t) ≤ length (now s) + stride) × (h * w ≤ length (now pred)) × (isRowWidth w ≡ true) × (h < 128) × (dx < phases t) ⌝ }
+    requires { ⌜ (at + h * stride + (w + reach t) ≤ length (now s) + stride) × (h * w ≤ length (now pred)) × (isRowWidth w ≡ true) × (dx < phases t) ⌝ }
     requires { ⌜ Within (now s) at stride (w + reach t) h ⌝ }
     ensures { λ _. ⌜ now (pred .exit) ≡ withBlock (now (pred .entry)) 0 w w h (λ (y x : ℕ). interpolated t dx (now (s .entry)) (at + y * stride + x) 1) ⌝ }
 {
@@ -76,7 +75,7 @@ fn evc_mc_n0(
         pred,
         0,
         w,
-        unit(h),
+        unit(s),
     );
 }
 
@@ -90,7 +89,7 @@ fn evc_mc_0n(
     dy: usize,
     pred: &mut [u16],
 )
-    requires { ⌜ (at + (h + reach t) * stride + w ≤ length (now s) + stride) × (h * w ≤ length (now pred)) × (isRowWidth w ≡ true) × (h < 128) × (dy < phases t) × (stride ≤ 65535) ⌝ }
+    requires { ⌜ (at + (h + reach t) * stride + w ≤ length (now s) + stride) × (h * w ≤ length (now pred)) × (isRowWidth w ≡ true) × (dy < phases t) × (stride ≤ 65535) ⌝ }
     requires { ⌜ Within (now s) at stride w (h + reach t) ⌝ }
     ensures { λ _. ⌜ now (pred .exit) ≡ withBlock (now (pred .entry)) 0 w w h (λ (y x : ℕ). interpolated t dy (now (s .entry)) (at + y * stride + x) stride) ⌝ }
 {
@@ -105,7 +104,7 @@ fn evc_mc_0n(
         pred,
         0,
         w,
-        unit(h),
+        unit(s),
     );
 }
 
@@ -129,7 +128,7 @@ fn columns(
     requires { ⌜ Within (now s) at stride (n + reach t) (h + reach t) ⌝ }
     ensures { λ _. ⌜ now (pred .exit) ≡ withBlock (now (pred .entry)) to w n h (λ (y x : ℕ). interpolatedTwice t dx dy (now (s .entry)) (at + y * stride + x) stride) ⌝ }
 {
-    let one = unit(h);
+    let one = unit(s);
     evc_filter::quarter_block(
         s,
         at,

@@ -18,7 +18,7 @@ one-block-requires c κs =
     let a = s .args in
     let p = s .pre .0 in
     rw (c .before .before .before .offsets-of .ensures, c .before .before .taps-of .ensures)
-    (one-asks (a .t) (a .s .now) (a .pred .now) (a .at) (a .stride) (a .w) (a .h) (a .dx) 1 _ (omega arith) (p .1) (p .2) (p .4) (c .unit .ensures) (near s))
+    (one-asks (a .t) (a .s .now) (a .pred .now) (a .at) (a .stride) (a .w) (a .h) (a .dx) 1 _ (omega arith) (p .1) (p .2) (p .3) (c .unit .ensures) (near s))
 
 returns : tie.Need-returns
 returns c =
@@ -26,7 +26,7 @@ returns c =
     let s = u .before .before .before .before in
     let a = s .args in
     c .before .before .one-block .ensures
-    ∙ one-gives (a .t) (a .s .now) (a .pred .now) (a .at) (a .stride) (a .w) (a .h) (a .dx) 1 1 _ _ (u .before .offsets-of .ensures) (u .taps-of .ensures) (s .pre .0 .4) (near s)
+    ∙ one-gives (a .t) (a .s .now) (a .pred .now) (a .at) (a .stride) (a .w) (a .h) (a .dx) 1 1 _ _ (u .before .offsets-of .ensures) (u .taps-of .ensures) (s .pre .0 .3) (near s)
 
 pub evc-mc-n0-spec : {M : Type 1} → statement M
 evc-mc-n0-spec = tie.close (tie.spec (λ c κs. search needs) (λ c κs. search needs) (λ c κs. search needs) one-block-requires (λ c. search needs) returns)

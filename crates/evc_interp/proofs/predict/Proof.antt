@@ -78,7 +78,7 @@ evc-mc-n0-requires c κs =
     let g = good s in
     let a = s .args in
     let r = asks p true false (c .before .before .if1 .taken) (c .before .if2 .left) (a .w + reach (a .t)) (a .h) (omega arith) (omega arith) in
-    ((r .0, room s, g .w-side .width, (let l = g .h-side .small in omega arith), dx-small p), r .1)
+    ((r .0, room s, g .w-side .width, dx-small p), r .1)
 
 evc-mc-0n-requires : tie.Need-evc-mc-0n-requires
 evc-mc-0n-requires c κs =
@@ -87,7 +87,7 @@ evc-mc-0n-requires c κs =
     let g = good s in
     let a = s .args in
     let r = asks p false true (c .before .before .if1 .left) (c .before .if3 .taken) (a .w) (a .h + reach (a .t)) (omega arith) (omega arith) in
-    ((r .0, room s, g .w-side .width, (let l = g .h-side .small in omega arith), dy-small p, stride-small (a .t) (a .pic-w) (a .pic-h) _ (stride p) (g .picture)), r .1)
+    ((r .0, room s, g .w-side .width, dy-small p, stride-small (a .t) (a .pic-w) (a .pic-h) _ (stride p) (g .picture)), r .1)
 
 evc-mc-00-requires : tie.Need-evc-mc-00-requires
 evc-mc-00-requires c κs =
