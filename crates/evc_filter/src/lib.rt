@@ -206,6 +206,9 @@ fn split_at(s: &[u16], at: usize, o: Offsets, t: Taps) -> u16
 }
 
 // ---- lanes, rows and blocks of each stage: all samples are read before one is written, so that the eight lanes are one vector
+//
+// `one` is 1: a step that the optimizer does not know keeps it from widening the loops over a row and over the rows, which makes
+// them slower than the Rust.
 
 fn quarter_oct(s: &[u16], at: usize, o: Offsets, t: Taps, d: &mut [u16], to: usize)
     requires { ⌜ (at + 8 + o .p1 ≤ length (now s)) × (to + 8 ≤ length (now d)) × Ordered o × Small t ⌝ }
@@ -256,9 +259,19 @@ fn quarter_pair(s: &[u16], at: usize, o: Offsets, t: Taps, d: &mut [u16], to: us
     d[to + 1] = v1;
 }
 
-fn quarter_row(s: &[u16], at: usize, n: usize, o: Offsets, t: Taps, d: &mut [u16], to: usize)
+fn quarter_row(
+    s: &[u16],
+    at: usize,
+    n: usize,
+    o: Offsets,
+    t: Taps,
+    d: &mut [u16],
+    to: usize,
+    one: usize,
+)
     requires { ⌜ (at + n + o .p1 ≤ length (now s)) × (to + n ≤ length (now d)) × (isRowWidth n ≡ true) × Ordered o × Small t ⌝ }
     requires { ⌜ ((x : ℕ) → x < n → Bounded 1023 (now s) (at + x) o) ⌝ }
+    requires { ⌜ one ≡ 1 ⌝ }
     ensures { λ _. ⌜ now (d .exit) ≡ withRow (now (d .entry)) to n (λ (x : ℕ). quarterAt (now (s .entry)) (at + x) o t) ⌝ }
 {
     if n == 4 {
@@ -272,11 +285,10 @@ fn quarter_row(s: &[u16], at: usize, n: usize, o: Offsets, t: Taps, d: &mut [u16
     let mut x = 0;
     while x + 8 <= n {
         quarter_oct(s, at + x, o, t, d, to + x);
-        x += 8;
+        x += 8 * one;
     }
 }
 
-// `one` is 1: a step that the optimizer does not know keeps it from widening the loop over rows (three times slower).
 pub fn quarter_block(
     s: &[u16],
     at: usize,
@@ -297,7 +309,7 @@ pub fn quarter_block(
 {
     let mut y = 0;
     while y < h {
-        quarter_row(s, at + y * stride, n, o, t, d, to + y * width);
+        quarter_row(s, at + y * stride, n, o, t, d, to + y * width, one);
         y += one;
     }
 }
@@ -351,9 +363,19 @@ fn one_pair(s: &[u16], at: usize, o: Offsets, t: Taps, d: &mut [u16], to: usize)
     d[to + 1] = v1;
 }
 
-fn one_row(s: &[u16], at: usize, n: usize, o: Offsets, t: Taps, d: &mut [u16], to: usize)
+fn one_row(
+    s: &[u16],
+    at: usize,
+    n: usize,
+    o: Offsets,
+    t: Taps,
+    d: &mut [u16],
+    to: usize,
+    one: usize,
+)
     requires { ⌜ (at + n + o .p1 ≤ length (now s)) × (to + n ≤ length (now d)) × (isRowWidth n ≡ true) × Ordered o × Small t ⌝ }
     requires { ⌜ ((x : ℕ) → x < n → Bounded 1023 (now s) (at + x) o) ⌝ }
+    requires { ⌜ one ≡ 1 ⌝ }
     ensures { λ _. ⌜ now (d .exit) ≡ withRow (now (d .entry)) to n (λ (x : ℕ). oneAt (now (s .entry)) (at + x) o t) ⌝ }
 {
     if n == 4 {
@@ -367,11 +389,10 @@ fn one_row(s: &[u16], at: usize, n: usize, o: Offsets, t: Taps, d: &mut [u16], t
     let mut x = 0;
     while x + 8 <= n {
         one_oct(s, at + x, o, t, d, to + x);
-        x += 8;
+        x += 8 * one;
     }
 }
 
-// `one` is 1: a step that the optimizer does not know keeps it from widening the loop over rows (three times slower).
 pub fn one_block(
     s: &[u16],
     at: usize,
@@ -392,7 +413,7 @@ pub fn one_block(
 {
     let mut y = 0;
     while y < h {
-        one_row(s, at + y * stride, n, o, t, d, to + y * width);
+        one_row(s, at + y * stride, n, o, t, d, to + y * width, one);
         y += one;
     }
 }
@@ -446,9 +467,19 @@ fn split_pair(s: &[u16], at: usize, o: Offsets, t: Taps, d: &mut [u16], to: usiz
     d[to + 1] = v1;
 }
 
-fn split_row(s: &[u16], at: usize, n: usize, o: Offsets, t: Taps, d: &mut [u16], to: usize)
+fn split_row(
+    s: &[u16],
+    at: usize,
+    n: usize,
+    o: Offsets,
+    t: Taps,
+    d: &mut [u16],
+    to: usize,
+    one: usize,
+)
     requires { ⌜ (at + n + o .p1 ≤ length (now s)) × (to + n ≤ length (now d)) × (isRowWidth n ≡ true) × Ordered o × Small t ⌝ }
     requires { ⌜ ((x : ℕ) → x < n → Bounded 26603 (now s) (at + x) o) ⌝ }
+    requires { ⌜ one ≡ 1 ⌝ }
     ensures { λ _. ⌜ now (d .exit) ≡ withRow (now (d .entry)) to n (λ (x : ℕ). splitAt (now (s .entry)) (at + x) o t) ⌝ }
 {
     if n == 4 {
@@ -462,11 +493,10 @@ fn split_row(s: &[u16], at: usize, n: usize, o: Offsets, t: Taps, d: &mut [u16],
     let mut x = 0;
     while x + 8 <= n {
         split_oct(s, at + x, o, t, d, to + x);
-        x += 8;
+        x += 8 * one;
     }
 }
 
-// `one` is 1: a step that the optimizer does not know keeps it from widening the loop over rows (three times slower).
 pub fn split_block(
     s: &[u16],
     at: usize,
@@ -487,7 +517,7 @@ pub fn split_block(
 {
     let mut y = 0;
     while y < h {
-        split_row(s, at + y * stride, n, o, t, d, to + y * width);
+        split_row(s, at + y * stride, n, o, t, d, to + y * width, one);
         y += one;
     }
 }

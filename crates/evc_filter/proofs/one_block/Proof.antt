@@ -44,7 +44,7 @@ one-row-requires c κs =
     let k = c .before in
     let p = start k .pre in
     let r = rows k in
-    ((r .0, (let e = k .before .loop .inv .1 in let b = r .1 in omega arith), p .0 .2, p .0 .3, p .0 .4), λ x b. p .1 .0 (k .before .loop .y) x (k .loop-test .taken) b)
+    ((r .0, (let e = k .before .loop .inv .1 in let b = r .1 in omega arith), p .0 .2, p .0 .3, p .0 .4), (λ x b. p .1 .0 (k .before .loop .y) x (k .loop-test .taken) b, p .1 .1))
 
 loop-again : tie.Need-loop-again Inv-loop μ-loop
 loop-again c =

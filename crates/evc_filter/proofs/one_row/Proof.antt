@@ -1,5 +1,5 @@
 -- `evc_filter::one_row` meets its contract. The invariant: the first x elements are written, x a multiple of 8. Assumes nothing.
-use Prim.Native.Nat.{ℕ, _+_, _-_, _%_, _<_, _≤_}
+use Prim.Native.Nat.{ℕ, _+_, _-_, _*_, _%_, _<_, _≤_}
 use mathlib.Core.List.{List}
 use mathlib.Core.Path.{_≡_, refl, sym, ap, _∙_}
 use native.Mathlib.Nat.{add-assoc}
@@ -13,21 +13,21 @@ use Rattle.evc_filter.proofs.one_row.Statement.{statement}
 use Rattle.evc_filter.proofs.one_row.Tie as tie
 
 abbrev Inv-loop : tie.InvT-loop
-Inv-loop s at n o t d₀ to x₀ d x = (x ≤ n) × (x % 8 ≡ 0) × (length d ≡ length d₀) × (d ≡ withRow d₀ to x (λ (i : ℕ). oneAt s (at + i) o t))
+Inv-loop s at n o t d₀ to one x₀ d x = (x ≤ n) × (x % 8 ≡ 0) × (length d ≡ length d₀) × (d ≡ withRow d₀ to x (λ (i : ℕ). oneAt s (at + i) o t))
 
 abbrev μ-loop : tie.MeasureT-loop
-μ-loop s at n o t d₀ to x₀ d x = n - x
+μ-loop s at n o t d₀ to one x₀ d x = n - x
 
 -- what a part of k elements from x on asks
 part : (s : tie.Start Inv-loop μ-loop) (x k : ℕ) → x + k ≤ s .args .n → ((s .args .at + x + k + s .args .o .p1 ≤ length (s .args .s .now)) × (s .args .to + x + k ≤ length (s .args .d .now)) × Ordered (s .args .o) × Small (s .args .t)) × ((i : ℕ) → i < k → Bounded 1023 (s .args .s .now) (s .args .at + x + i) (s .args .o))
 part s x k l =
     let p = s .pre .0 in (
       (omega arith, omega arith, p .3, p .4),
-      λ i b. let e : s .args .at + (x + i) ≡ s .args .at + x + i = omega arith in rw e at (s .pre .1 (x + i) (omega arith)),
+      λ i b. let e : s .args .at + (x + i) ≡ s .args .at + x + i = omega arith in rw e at (s .pre .1 .0 (x + i) (omega arith)),
     )
 
 first-part : (s : tie.Start Inv-loop μ-loop) (k : ℕ) → s .args .n ≡ k → ((s .args .at + k + s .args .o .p1 ≤ length (s .args .s .now)) × (s .args .to + k ≤ length (s .args .d .now)) × Ordered (s .args .o) × Small (s .args .t)) × ((i : ℕ) → i < k → Bounded 1023 (s .args .s .now) (s .args .at + i) (s .args .o))
-first-part s k e = let p = s .pre .0 in ((omega arith, omega arith, p .3, p .4), λ i b. s .pre .1 i (omega arith))
+first-part s k e = let p = s .pre .0 in ((omega arith, omega arith, p .3, p .4), λ i b. s .pre .1 .0 i (omega arith))
 
 abbrev start : tie.Else1 Inv-loop μ-loop → tie.Start Inv-loop μ-loop
 start c = c .before .before .before
@@ -75,22 +75,37 @@ one-oct-requires c κs =
     let q = part (start (l .before .before)) (l .loop .x) 8 (c .before .loop-test .taken) in
     ((q .0 .0, (let e = l .loop .inv .2 in let r = q .0 .1 in omega arith), q .0 .2, q .0 .3), q .1)
 
+-- a step
+eight : (s : tie.Start Inv-loop μ-loop) → 8 * s .args .one ≡ 8
+eight s = let e = s .pre .1 .1 in omega arith
+
+mul-x : tie.Need-mul-x Inv-loop μ-loop
+mul-x c = record { fits = omega (arith, eight (start (c .before .before .before .before .before .before .before))) }
+
 add-x : tie.Need-add-x Inv-loop μ-loop
-add-x c = record { fits = let i = c .before .before .before .before .before .loop .inv in omega (arith, ends (start (c .before .before .before .before .before .before .before))) }
+add-x c =
+    let s = start (c .before .before .before .before .before .before .before) in
+    record { fits = let i = c .before .before .before .before .before .loop .inv in omega (arith, ends s, eight s) }
 
 loop-less : tie.Need-loop-less Inv-loop μ-loop
-loop-less c = omega arith
+loop-less c =
+    let k = c .before .before .before .before in
+    let t = k .loop-test .taken in
+    omega (arith, eight (start (k .before .before .before)))
 
 loop-again : tie.Need-loop-again Inv-loop μ-loop
 loop-again c =
     let q = c .before .before in
     let k = q .before .before in
     let i = k .before .loop .inv in
-    let a = start (k .before .before .before) .args in (
-      k .loop-test .taken,
-      omega arith,
+    let s = start (k .before .before .before) in
+    let a = s .args in
+    let e : k .before .loop .x + 8 * a .one ≡ k .before .loop .x + 8 = omega (arith, eight s) in (
+      (let t = k .loop-test .taken in omega arith),
+      (let m = i .1 in omega arith),
       q .one-oct .kept .1 .1 .1 .1 .0 ∙ i .2,
-      oct-step _ _ _ _ _ (λ (j : ℕ). oneAt (a .s .now) (a .at + j) (a .o) (a .t)) _ (λ j. ap (λ (n : ℕ). oneAt (a .s .now) n (a .o) (a .t)) (add-assoc _ _ j)) (i .3) (q .one-oct .ensures),
+      oct-step _ _ _ _ _ (λ (j : ℕ). oneAt (a .s .now) (a .at + j) (a .o) (a .t)) _ (λ j. ap (λ (n : ℕ). oneAt (a .s .now) n (a .o) (a .t)) (add-assoc _ _ j)) (i .3) (q .one-oct .ensures)
+          ∙ ap (λ (n : ℕ). withRow (a .d .now) (a .to) n (λ (j : ℕ). oneAt (a .s .now) (a .at + j) (a .o) (a .t))) (sym e),
     )
 
 returns-3 : tie.Need-returns-3 Inv-loop μ-loop
@@ -117,6 +132,7 @@ one-row-spec =
     add-one-oct
     add-one-oct-2
     one-oct-requires
+    mul-x
     add-x
     loop-less
     loop-again
