@@ -26,6 +26,12 @@ clipMv b mv =
       y = clipComponent (b .«pic_h») (b .y) (b .h) (mv .y);
     }
 
+-- "A list's clipped place is 4x + mvx across and 4y + mvy down, with the clipped vector.": qpel_gmv_x and qpel_gmv_y of the Rust
+unfoldable pub clippedPlace : EvcBlock → EvcMv → EvcMv
+clippedPlace b mv =
+    let clipped = clipMv b mv in
+    record { x = pos 4 *ℤ pos (b .x) +ℤ clipped .x; y = pos 4 *ℤ pos (b .y) +ℤ clipped .y }
+
 -- the call: "Error: 1, 2."
 unfoldable pub mvClip : EvcBlock → EvcMv → EvcClipped
 mvClip b mv =

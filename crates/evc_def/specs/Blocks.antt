@@ -17,6 +17,10 @@ isBlockSide n = eqb n 4 || eqb n 8 || eqb n 16 || eqb n 32 || eqb n 64
 abbrev pub isInside : ℕ → ℕ → ℕ → Bool
 isInside size place side = eqb (place % 4) 0 && leb (place + side) size
 
+-- "Order counts are 0 to 32,767."
+abbrev pub maxPoc : ℕ
+maxPoc = 32767
+
 -- refused with 1: "a picture side is not allowed"
 unfoldable pub badPicture : ℕ → ℕ → Bool
 badPicture W H = not (isPictureSide W && isPictureSide H)

@@ -231,6 +231,8 @@ pub struct EvcBlock {
 
 const MAX_PIC_SIZE: u32 = 8128;
 
+pub const MAX_POC: u32 = 32767;
+
 fn is_picture_side(n: u32) -> bool
     ensures { λ r. ⌜ r ≡ isPictureSide n ⌝ }
 {

@@ -9,6 +9,7 @@ use lib.ListN.{length}
 use lib.Signed.{quotZ}
 use Rattle.evc_int.specs.Whole.{−_}
 use Rattle.evc_int.specs.LowBits.{low16}
+use Rattle.evc_def.specs.Blocks.{maxPoc}
 use Rattle.evc_def.specs.Codes.{Check, _when_, firstOf, blockChecks, zeroMv}
 use Rattle.evc_def.specs.declared.EvcBlock.{EvcBlock}
 use Rattle.evc_def.specs.declared.EvcMv.{EvcMv}
@@ -16,10 +17,7 @@ use Rattle.evc_util.specs.Units.{unitCount, scup, mvLen, mvAt}
 use Rattle.evc_util.specs.declared.EvcDirect.{EvcDirect}
 use Rattle.evc_util.specs.declared.Pocs.{Pocs}
 
--- "Order counts are 0 to 32,767."
-abbrev pub maxPoc : ℕ
-maxPoc = 32767
-
+-- 5: "an order count in use exceeds 32,767"
 unfoldable pub pocTooLarge : Pocs → Bool
 pocTooLarge p = ltb maxPoc (p .poc) || ltb maxPoc (p .poc0) || ltb maxPoc (p .poc1) || ltb maxPoc (p .«list_poc0»)
 

@@ -26,6 +26,7 @@ use evc_def::AVAIL_UP_RI;
 use evc_def::EvcBlock;
 use evc_def::EvcMv;
 use evc_def::GET_AVAIL_FLAG;
+use evc_def::MAX_POC;
 use evc_def::MCU;
 use evc_def::Pel;
 use evc_def::Scu;
@@ -354,8 +355,6 @@ pub fn get_motion(
 }
 
 // ---- direct vectors
-
-const MAX_POC: u32 = 32767;
 
 // The order counts of the picture and of its two references, and the first count that reference 1 lists.
 pub struct Pocs {

@@ -16,7 +16,8 @@ use Rattle.evc_def.specs.declared.EvcMv.{EvcMv}
 use Rattle.evc_def.proofs.Codes.{accepted, both-accepted}
 use Rattle.evc_def.proofs.Blocks.{allowed-block}
 use Rattle.evc_util.specs.Units.{unitCount, mvLen}
-use Rattle.evc_util.specs.Direct.{maxPoc, pocTooLarge, directChecks, collocated, directVectors, getMvDir}
+use Rattle.evc_def.specs.Blocks.{maxPoc}
+use Rattle.evc_util.specs.Direct.{pocTooLarge, directChecks, collocated, directVectors, getMvDir}
 use Rattle.evc_util.specs.declared.EvcDirect.{EvcDirect}
 use Rattle.evc_util.specs.declared.Pocs.{Pocs}
 use Rattle.evc_util.proofs.Reach.{or-false, and-false-right}
