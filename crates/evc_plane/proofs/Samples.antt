@@ -31,7 +31,7 @@ or-too-large x y = go (ltb 1023 x) (ltb 1023 y) refl refl
 
 -- ---- what the answer says of each sample
 
-or-none : (a b : Bool) → a || b ≡ false → (a ≡ false) × (b ≡ false)
+pub or-none : (a b : Bool) → a || b ≡ false → (a ≡ false) × (b ≡ false)
 or-none true b e = (e, absurd (subst T e tt))
 or-none false b e = (refl, e)
 
@@ -79,46 +79,33 @@ same-answer true false f g = g refl
 same-answer false b f g = sym (f refl)
 
 module _ (s : List ℕ) (at : ℕ) where
-  -- the first x of a row, and x from `last` on
-  abbrev pub endsExceed : ℕ → ℕ → Bool
-  endsExceed last x = rowExceeds s at x || rowExceeds s last x
-
-  pub ends-none : (last : ℕ) → tooLarge 0 ≡ endsExceed last 0
+  pub row-none : tooLarge 0 ≡ rowExceeds s at 0
   unfolding rowExceeds
-  ends-none last = zero-fits
+  row-none = zero-fits
 
-  pub ends-more : (last x o p q : ℕ) → tooLarge o ≡ endsExceed last x → tooLarge p ≡ tooLarge o || tooLarge (getD s (at + x) 0) → tooLarge q ≡ tooLarge p || tooLarge (getD s (last + x) 0) → tooLarge q ≡ endsExceed last (x + 1)
+  pub row-more : (x o r : ℕ) → tooLarge o ≡ rowExceeds s at x → tooLarge r ≡ tooLarge o || tooLarge (getD s (at + x) 0) → tooLarge r ≡ rowExceeds s at (x + 1)
   unfolding rowExceeds
-  ends-more last x o p q h i j =
-      let v = tooLarge (getD s (at + x) 0) in
-      let w = tooLarge (getD s (last + x) 0) in
-      rw add-one (j ∙ ap (λ (b : Bool). b || w) (i ∙ ap (λ (b : Bool). b || v) h) ∙ turned (rowExceeds s at x) (rowExceeds s last x) v w)
-    where
-      turned : (a b v w : Bool) → ((a || b) || v) || w ≡ (a || v) || (b || w)
-      turned true b v w = refl
-      turned false true true w = refl
-      turned false true false w = refl
-      turned false false v w = refl
+  row-more x o r h e = rw add-one (e ∙ ap (λ (b : Bool). b || tooLarge (getD s (at + x) 0)) h)
 
-  -- the first k and the last k are the whole row
-  pub ends-all : (n k : ℕ) → k ≤ n → n ≤ k + k → endsExceed (at + n - k) k ≡ rowExceeds s at n
-  ends-all n k l m = same-answer (endsExceed (at + n - k) k) (rowExceeds s at n) forth back
+  -- the first j and the last k are the whole row
+  pub ends-all : (n j k : ℕ) → j ≤ n → k ≤ n → n ≤ j + k → rowExceeds s at j || rowExceeds s (at + n - k) k ≡ rowExceeds s at n
+  ends-all n j k lj lk m = same-answer (rowExceeds s at j || rowExceeds s (at + n - k) k) (rowExceeds s at n) forth back
     where
-      forth : endsExceed (at + n - k) k ≡ false → rowExceeds s at n ≡ false
+      forth : rowExceeds s at j || rowExceeds s (at + n - k) k ≡ false → rowExceeds s at n ≡ false
       forth e =
-          let h = or-none (rowExceeds s at k) (rowExceeds s (at + n - k) k) e in
-          row-all-small s at n (λ x lx. either x (ltb x k) refl lx (h .0) (h .1))
+          let h = or-none (rowExceeds s at j) (rowExceeds s (at + n - k) k) e in
+          row-all-small s at n (λ x lx. either x (ltb x j) refl lx (h .0) (h .1))
         where
-          either : (x : ℕ) (t : Bool) → ltb x k ≡ t → x < n → rowExceeds s at k ≡ false → rowExceeds s (at + n - k) k ≡ false → getD s (at + x) 0 ≤ 1023
-          either x true f lx a b = row-small s at k a x (ltb-true x k f)
+          either : (x : ℕ) (t : Bool) → ltb x j ≡ t → x < n → rowExceeds s at j ≡ false → rowExceeds s (at + n - k) k ≡ false → getD s (at + x) 0 ≤ 1023
+          either x true f lx a b = row-small s at j a x (ltb-true x j f)
           either x false f lx a b =
-              let ge = ltb-false x k f in
+              let ge = ltb-false x j f in
               let i : at + n - k + (x - (n - k)) ≡ at + x = omega arith in
               rw (sym i) (row-small s (at + n - k) k b (x - (n - k)) (omega arith))
 
-      back : rowExceeds s at n ≡ false → endsExceed (at + n - k) k ≡ false
+      back : rowExceeds s at n ≡ false → rowExceeds s at j || rowExceeds s (at + n - k) k ≡ false
       back e =
-          ap₂ (λ (a b : Bool). a || b) (row-all-small s at k (λ x lx. row-small s at n e x (omega arith)))
+          ap₂ (λ (a b : Bool). a || b) (row-all-small s at j (λ x lx. row-small s at n e x (omega arith)))
           (row-all-small s (at + n - k) k (λ x lx.
           let i : at + (n - k + x) ≡ at + n - k + x = omega arith in
           rw (sym i) (row-small s at n e (n - k + x) (omega arith))))
@@ -128,6 +115,58 @@ module _ (s : List ℕ) (at : ℕ) where
     unfolding exceeds
     rows-none = zero-fits
 
-    pub rows-more : (y o v r : ℕ) → tooLarge o ≡ exceeds s at stride n y → tooLarge v ≡ rowExceeds s (at + y * stride) n → tooLarge r ≡ tooLarge o || tooLarge v → tooLarge r ≡ exceeds s at stride n (y + 1)
+    -- one row more, for whatever number or lanes p stands for
+    pub rows-more : (y : ℕ) (p q r : Bool) → p ≡ exceeds s at stride n y → q ≡ rowExceeds s (at + y * stride) n → r ≡ p || q → r ≡ exceeds s at stride n (y + 1)
     unfolding exceeds
-    rows-more y o v r p q e = rw add-one (e ∙ ap₂ (λ (a b : Bool). a || b) p q)
+    rows-more y p q r h i e = rw add-one (e ∙ ap₂ (λ (a b : Bool). a || b) h i)
+
+  -- the same of the columns of h rows: the first j and the last k are all of them
+  module _ (stride h : ℕ) where
+    pub columns-all : (n j k : ℕ) → j ≤ n → k ≤ n → n ≤ j + k → exceeds s (at + n - k) stride k h || exceeds s at stride j h ≡ exceeds s at stride n h
+    columns-all n j k lj lk m = same-answer (exceeds s (at + n - k) stride k h || exceeds s at stride j h) (exceeds s at stride n h) forth back
+      where
+        forth : exceeds s (at + n - k) stride k h || exceeds s at stride j h ≡ false → exceeds s at stride n h ≡ false
+        forth e =
+            let g = or-none (exceeds s (at + n - k) stride k h) (exceeds s at stride j h) e in
+            none-exceeds s at stride n h (λ y x ly lx. either y x (ltb x j) refl ly lx (g .1) (g .0))
+          where
+            either : (y x : ℕ) (t : Bool) → ltb x j ≡ t → y < h → x < n → exceeds s at stride j h ≡ false → exceeds s (at + n - k) stride k h ≡ false → getD s (at + y * stride + x) 0 ≤ 1023
+            either y x true f ly lx a b = exceeds-none s at stride j h a y x ly (ltb-true x j f)
+            either y x false f ly lx a b =
+                let ge = ltb-false x j f in
+                let i : at + n - k + y * stride + (x - (n - k)) ≡ at + y * stride + x = omega arith in
+                rw (sym i) (exceeds-none s (at + n - k) stride k h b y (x - (n - k)) ly (omega arith))
+
+        back : exceeds s at stride n h ≡ false → exceeds s (at + n - k) stride k h || exceeds s at stride j h ≡ false
+        back e =
+            ap₂ (λ (a b : Bool). a || b)
+            (none-exceeds s (at + n - k) stride k h (λ y x ly lx.
+            let i : at + y * stride + (n - k + x) ≡ at + n - k + y * stride + x = omega arith in
+            rw (sym i) (exceeds-none s at stride n h e y (n - k + x) ly (omega arith))))
+            (none-exceeds s at stride j h (λ y x ly lx. exceeds-none s at stride n h e y x ly (omega arith)))
+
+    -- beside some columns e: none, and k columns more
+    pub columns-begin : (e : Bool) (o : ℕ) → tooLarge o ≡ e → tooLarge o ≡ e || exceeds s at stride 0 h
+    columns-begin e o t = t ∙ go e
+      where
+        none : exceeds s at stride 0 h ≡ false
+        none = none-exceeds s at stride 0 h (λ y x ly lx. absurd (not-suc-le-zero lx))
+
+        go : (e : Bool) → e ≡ e || exceeds s at stride 0 h
+        go true = refl
+        go false = sym none
+
+    pub columns-more : (x k : ℕ) (e : Bool) (o v r : ℕ) → tooLarge o ≡ e || exceeds s at stride x h → tooLarge v ≡ exceeds s (at + x) stride k h → tooLarge r ≡ tooLarge o || tooLarge v → tooLarge r ≡ e || exceeds s at stride (x + k) h
+    columns-more x k e o v r p q t =
+        let i : at + x ≡ at + (x + k) - k = omega arith in
+        let S = exceeds s (at + x) stride k h in
+        let X = exceeds s at stride x h in
+        t ∙ ap₂ (λ (a b : Bool). a || b) p q ∙ turned e X S
+        ∙ ap (λ (b : Bool). e || b) (ap (λ (m : ℕ). exceeds s m stride k h || X) i ∙ columns-all (x + k) x k (omega arith) (omega arith) (omega arith))
+      where
+        turned : (e b c : Bool) → (e || b) || c ≡ e || (c || b)
+        turned true b c = refl
+        turned false true true = refl
+        turned false true false = refl
+        turned false false true = refl
+        turned false false false = refl

@@ -1,3 +1,4 @@
 pub mod Planes
 pub mod Samples
 pub mod Padding
+pub mod Code

@@ -11,10 +11,10 @@ use Rattle.evc_plane.proofs.or_rows.Statement.{statement}
 use Rattle.evc_plane.proofs.or_rows.Tie as tie
 
 abbrev Inv-loop : tie.InvT-loop
-Inv-loop s at stride n h k o₀ y₀ o y = (y ≤ h) × (tooLarge o ≡ exceeds s at stride n y)
+Inv-loop s at stride n h o₀ y₀ o y = (y ≤ h) × (tooLarge o ≡ exceeds s at stride n y)
 
 abbrev μ-loop : tie.MeasureT-loop
-μ-loop s at stride n h k o₀ y₀ o y = h - y
+μ-loop s at stride n h o₀ y₀ o y = h - y
 
 loop-holds : tie.Need-loop-holds Inv-loop μ-loop
 loop-holds c = (omega arith, rows-none _ _ _ _)

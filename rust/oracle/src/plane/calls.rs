@@ -32,3 +32,8 @@ pub fn pad(chroma: bool, pic_w: usize, pic_h: usize, samples: &mut [u16]) {
     plane.pad();
     samples[..plane.data.len()].copy_from_slice(&plane.data);
 }
+
+/// `Plane::pad` alone.
+pub fn pad_plane(plane: &mut Plane<u16>) {
+    plane.pad();
+}
