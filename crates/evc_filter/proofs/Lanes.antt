@@ -1,14 +1,14 @@
--- Lanes written one after the other are a row, and rows of eight are a longer row. Assumes nothing.
-use mathlib.Core.Bool.{Bool, true, false, _||_}
-use Prim.Native.Nat.{ℕ, _+_, _%_, _<_}
+-- Lanes written one after the other are a row, and the widths of blocks. Assumes nothing.
+use mathlib.Core.Bool.{Bool, true, false, _&&_, _||_}
+use Prim.Native.Nat.{ℕ, _+_, _%_, _<_, _≤_}
 use mathlib.Core.List.{List}
 use mathlib.Core.Path.{_≡_, sym, ap, subst, _∙_}
 use native.Mathlib.Omega.{arith}
-use borrow.Author.Tests.{eqb-true, ne-eqb}
-use lib.Dec.{T, eqb}
+use borrow.Author.Tests.{ne-eqb}
+use lib.Dec.{T, eqb, leb, leb→le, eqb→eq}
+use mir.Facts.{and-yes}
 use lib.ListN.{set}
 use Rattle.evc_int.specs.Lists.{withRow, withBlock}
-use Rattle.evc_int.proofs.Lists.{withRow-ext, withRow-join}
 use Rattle.evc_filter.specs.Code.{isRowWidth}
 
 module _ (d : List ℕ) (to : ℕ) (f : ℕ → ℕ) where
@@ -25,20 +25,21 @@ module _ (d : List ℕ) (to : ℕ) (f : ℕ → ℕ) where
   unfolding withRow
   eight-lanes a b c e g h i j p q r s t u v w = let z : to + 0 ≡ to = omega arith in rw (z, p, q, r, s, t, u, v, w)
 
--- a turn of a loop that writes eight elements
-pub oct-step : (l l₀ k : List ℕ) (to x : ℕ) (f g : ℕ → ℕ) → ((i : ℕ) → g i ≡ f (x + i)) → l ≡ withRow l₀ to x f → k ≡ withRow l (to + x) 8 g → k ≡ withRow l₀ to (x + 8) f
-oct-step l l₀ k to x f g q p r =
-    r ∙ withRow-ext l (to + x) 8 g (λ (i : ℕ). f (x + i)) (λ i b. q i) ∙ ap (λ (v : List ℕ). withRow v (to + x) 8 (λ (i : ℕ). f (x + i))) p ∙ withRow-join l₀ to x 8 f
-
 -- the same number of rows, said in another way
 pub as-many : (l l₀ : List ℕ) (to width n y z : ℕ) (f : ℕ → ℕ → ℕ) → z ≡ y → l ≡ withBlock l₀ to width n y f → l ≡ withBlock l₀ to width n z f
 as-many l l₀ to width n y z f e p = p ∙ ap (λ (i : ℕ). withBlock l₀ to width n i f) (sym e)
 
--- a row's width that is neither 4 nor 2 is a multiple of 8
-pub eights : (n : ℕ) → isRowWidth n ≡ true → (n ≡ 4 → ⊥) → (n ≡ 2 → ⊥) → n % 8 ≡ 0
-eights n e f g = eqb-true (n % 8) 0 (last (eqb n 2) (eqb n 4) (eqb (n % 8) 0) e (ne-eqb n 2 g) (ne-eqb n 4 f))
+-- a block's width that is neither 4 nor 2 is a multiple of 8, from 8 on
+pub eights : (n : ℕ) → isRowWidth n ≡ true → (n ≡ 4 → ⊥) → (n ≡ 2 → ⊥) → (8 ≤ n) × (n % 8 ≡ 0)
+eights n e f g =
+    let t = and-yes (leb 8 n) (eqb (n % 8) 0) (subst T (sym (last (eqb n 2) (eqb n 4) (leb 8 n && eqb (n % 8) 0) e (ne-eqb n 2 g) (ne-eqb n 4 f))) tt) in
+    (leb→le 8 n (t .0), eqb→eq (n % 8) 0 (t .1))
   where
     last : (a b c : Bool) → (a || b || c) ≡ true → a ≡ false → b ≡ false → c ≡ true
     last true b c p q r = absurd (subst T q tt)
     last false true c p q r = absurd (subst T r tt)
     last false false c p q r = p
+
+-- a list's part is said to be k wide
+pub as-wide : (l l₀ : List ℕ) (to width n k h : ℕ) (f : ℕ → ℕ → ℕ) → n ≡ k → l ≡ withBlock l₀ to width k h f → l ≡ withBlock l₀ to width n h f
+as-wide l l₀ to width n k h f e p = p ∙ ap (λ (i : ℕ). withBlock l₀ to width i h f) (sym e)

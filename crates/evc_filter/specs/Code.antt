@@ -1,8 +1,8 @@
 -- What the code computes, in 16 bits. Both filters have the shape  a p − b q + 2 c x + 2 d y : luma's outer pair of samples is p and its inner pair q;
 -- chroma's outer pair is q, and its a is 0. A bias keeps every sum from falling below 0, and is taken off at the end.
-use mathlib.Core.Bool.{Bool, _||_}
+use mathlib.Core.Bool.{Bool, _&&_, _||_}
 use Prim.Native.Nat.{ℕ, _+_, _-_, _*_, _/_, _%_, _≤_, min}
-use lib.Dec.{eqb}
+use lib.Dec.{eqb, leb}
 use mathlib.Core.List.{List, [], _∷_}
 use lib.ListN.{getD}
 use Rattle.evc_plane.specs.declared.PlaneType.{PlaneType}
@@ -11,21 +11,30 @@ use Rattle.evc_filter.specs.declared.Offsets.{Offsets}
 use Rattle.evc_filter.specs.declared.Taps.{Taps}
 
 -- the sizes of the taps, by phase
+abbrev sizes : ℕ → ℕ → ℕ → ℕ → Taps
+sizes a b c d = record { a = a; b = b; c = c; d = d }
+
 abbrev pub tapsOf : PlaneType → ℕ → Taps
 tapsOf Y phase =
-    record {
-      a = getD (0 ∷ 1 ∷ 2 ∷ 1 ∷ []) phase 0;
-      b = getD (0 ∷ 5 ∷ 10 ∷ 5 ∷ []) phase 0;
-      c = getD (32 ∷ 26 ∷ 20 ∷ 10 ∷ []) phase 0;
-      d = getD (0 ∷ 10 ∷ 20 ∷ 26 ∷ []) phase 0;
-    }
+    getD
+    (sizes 0 0 32 0
+    ∷ sizes 1 5 26 10
+    ∷ sizes 2 10 20 20
+    ∷ sizes 1 5 10 26
+    ∷ [])
+    phase (sizes 0 0 0 0)
 tapsOf UV phase =
-    record {
-      a = 0;
-      b = getD (0 ∷ 2 ∷ 4 ∷ 6 ∷ 8 ∷ 6 ∷ 4 ∷ 2 ∷ []) phase 0;
-      c = getD (32 ∷ 29 ∷ 26 ∷ 23 ∷ 20 ∷ 15 ∷ 10 ∷ 5 ∷ []) phase 0;
-      d = getD (0 ∷ 5 ∷ 10 ∷ 15 ∷ 20 ∷ 23 ∷ 26 ∷ 29 ∷ []) phase 0;
-    }
+    getD
+    (sizes 0 0 32 0
+    ∷ sizes 0 2 29 5
+    ∷ sizes 0 4 26 10
+    ∷ sizes 0 6 23 15
+    ∷ sizes 0 8 20 20
+    ∷ sizes 0 6 15 23
+    ∷ sizes 0 4 10 26
+    ∷ sizes 0 2 5 29
+    ∷ [])
+    phase (sizes 0 0 0 0)
 
 -- taps for which no sum of 16 bits wraps
 pub record Small (t : Taps) : Type 0 where
@@ -86,6 +95,6 @@ oneAt s at o t = finished 320 (quarterAt s at o t + 8)
 unfoldable pub splitAt : List ℕ → ℕ → Offsets → Taps → ℕ
 splitAt s at o t = finished 840 (underTaps splitSum s at o t)
 
--- a row that the code can do: by eights, or 4 or 2 wide
+-- a block that the code can do: by columns of eight, or 4 or 2 wide
 abbrev pub isRowWidth : ℕ → Bool
-isRowWidth n = eqb n 2 || eqb n 4 || eqb (n % 8) 0
+isRowWidth n = eqb n 2 || eqb n 4 || (leb 8 n && eqb (n % 8) 0)

@@ -15,43 +15,97 @@ pub struct Taps {
     pub d: u16,
 }
 
-// By phase: tbl_mc_l_coeff's and tbl_mc_c_coeff's.
-const A_L: [u16; 4] = [0, 1, 2, 1];
+// By phase: those of tbl_mc_l_coeff and of tbl_mc_c_coeff.
+const TAPS_L: [Taps; 4] = [
+    Taps {
+        a: 0,
+        b: 0,
+        c: 32,
+        d: 0,
+    },
+    Taps {
+        a: 1,
+        b: 5,
+        c: 26,
+        d: 10,
+    },
+    Taps {
+        a: 2,
+        b: 10,
+        c: 20,
+        d: 20,
+    },
+    Taps {
+        a: 1,
+        b: 5,
+        c: 10,
+        d: 26,
+    },
+];
 
-const B_L: [u16; 4] = [0, 5, 10, 5];
-
-const C_L: [u16; 4] = [32, 26, 20, 10];
-
-const D_L: [u16; 4] = [0, 10, 20, 26];
-
-const B_C: [u16; 8] = [0, 2, 4, 6, 8, 6, 4, 2];
-
-const C_C: [u16; 8] = [32, 29, 26, 23, 20, 15, 10, 5];
-
-const D_C: [u16; 8] = [0, 5, 10, 15, 20, 23, 26, 29];
+const TAPS_C: [Taps; 8] = [
+    Taps {
+        a: 0,
+        b: 0,
+        c: 32,
+        d: 0,
+    },
+    Taps {
+        a: 0,
+        b: 2,
+        c: 29,
+        d: 5,
+    },
+    Taps {
+        a: 0,
+        b: 4,
+        c: 26,
+        d: 10,
+    },
+    Taps {
+        a: 0,
+        b: 6,
+        c: 23,
+        d: 15,
+    },
+    Taps {
+        a: 0,
+        b: 8,
+        c: 20,
+        d: 20,
+    },
+    Taps {
+        a: 0,
+        b: 6,
+        c: 15,
+        d: 23,
+    },
+    Taps {
+        a: 0,
+        b: 4,
+        c: 10,
+        d: 26,
+    },
+    Taps {
+        a: 0,
+        b: 2,
+        c: 5,
+        d: 29,
+    },
+];
 
 fn taps_l(phase: usize) -> Taps
     requires { ⌜ phase < 4 ⌝ }
     ensures { λ r. ⌜ r ≡ tapsOf PlaneType.Y phase ⌝ }
 {
-    Taps {
-        a: A_L[phase],
-        b: B_L[phase],
-        c: C_L[phase],
-        d: D_L[phase],
-    }
+    TAPS_L[phase]
 }
 
 fn taps_c(phase: usize) -> Taps
     requires { ⌜ phase < 8 ⌝ }
     ensures { λ r. ⌜ r ≡ tapsOf PlaneType.UV phase ⌝ }
 {
-    Taps {
-        a: 0,
-        b: B_C[phase],
-        c: C_C[phase],
-        d: D_C[phase],
-    }
+    TAPS_C[phase]
 }
 
 pub fn taps_of(t: PlaneType, phase: usize) -> Taps
@@ -205,10 +259,10 @@ fn split_at(s: &[u16], at: usize, o: Offsets, t: Taps) -> u16
     finish(sum, 840)
 }
 
-// ---- lanes, rows and blocks of each stage: all samples are read before one is written, so that the eight lanes are one vector
+// ---- lanes and blocks of each stage: all samples are read before one is written, so that the eight lanes are one vector
 //
-// `one` is 1: a step that the optimizer does not know keeps it from widening the loops over a row and over the rows, which makes
-// them slower than the Rust.
+// `one` is 1: where the numbers between the stages are eight to a row, a step that the optimizer does not know keeps it from widening
+// the loop over the rows, which makes it slower than the Rust.
 
 fn quarter_oct(s: &[u16], at: usize, o: Offsets, t: Taps, d: &mut [u16], to: usize)
     requires { ⌜ (at + 8 + o .p1 ≤ length (now s)) × (to + 8 ≤ length (now d)) × Ordered o × Small t ⌝ }
@@ -259,33 +313,75 @@ fn quarter_pair(s: &[u16], at: usize, o: Offsets, t: Taps, d: &mut [u16], to: us
     d[to + 1] = v1;
 }
 
-fn quarter_row(
+fn quarter_octs(
     s: &[u16],
     at: usize,
-    n: usize,
+    stride: usize,
+    h: usize,
     o: Offsets,
     t: Taps,
     d: &mut [u16],
     to: usize,
+    width: usize,
     one: usize,
 )
-    requires { ⌜ (at + n + o .p1 ≤ length (now s)) × (to + n ≤ length (now d)) × (isRowWidth n ≡ true) × Ordered o × Small t ⌝ }
-    requires { ⌜ ((x : ℕ) → x < n → Bounded 1023 (now s) (at + x) o) ⌝ }
+    requires { ⌜ (at + h * stride + 8 + o .p1 ≤ length (now s) + stride) × (to + h * width + 8 ≤ length (now d) + width) × Ordered o × Small t ⌝ }
+    requires { ⌜ ((y x : ℕ) → y < h → x < 8 → Bounded 1023 (now s) (at + y * stride + x) o) ⌝ }
     requires { ⌜ one ≡ 1 ⌝ }
-    ensures { λ _. ⌜ now (d .exit) ≡ withRow (now (d .entry)) to n (λ (x : ℕ). quarterAt (now (s .entry)) (at + x) o t) ⌝ }
+    ensures { λ _. ⌜ now (d .exit) ≡ withBlock (now (d .entry)) to width 8 h (λ (y x : ℕ). quarterAt (now (s .entry)) (at + y * stride + x) o t) ⌝ }
 {
-    if n == 4 {
-        quarter_quad(s, at, o, t, d, to);
-        return;
+    let mut y = 0;
+    while y < h {
+        quarter_oct(s, at + y * stride, o, t, d, to + y * width);
+        y += one;
     }
-    if n == 2 {
-        quarter_pair(s, at, o, t, d, to);
-        return;
+}
+
+fn quarter_quads(
+    s: &[u16],
+    at: usize,
+    stride: usize,
+    h: usize,
+    o: Offsets,
+    t: Taps,
+    d: &mut [u16],
+    to: usize,
+    width: usize,
+    one: usize,
+)
+    requires { ⌜ (at + h * stride + 4 + o .p1 ≤ length (now s) + stride) × (to + h * width + 4 ≤ length (now d) + width) × Ordered o × Small t ⌝ }
+    requires { ⌜ ((y x : ℕ) → y < h → x < 4 → Bounded 1023 (now s) (at + y * stride + x) o) ⌝ }
+    requires { ⌜ one ≡ 1 ⌝ }
+    ensures { λ _. ⌜ now (d .exit) ≡ withBlock (now (d .entry)) to width 4 h (λ (y x : ℕ). quarterAt (now (s .entry)) (at + y * stride + x) o t) ⌝ }
+{
+    let mut y = 0;
+    while y < h {
+        quarter_quad(s, at + y * stride, o, t, d, to + y * width);
+        y += one;
     }
-    let mut x = 0;
-    while x + 8 <= n {
-        quarter_oct(s, at + x, o, t, d, to + x);
-        x += 8 * one;
+}
+
+fn quarter_pairs(
+    s: &[u16],
+    at: usize,
+    stride: usize,
+    h: usize,
+    o: Offsets,
+    t: Taps,
+    d: &mut [u16],
+    to: usize,
+    width: usize,
+    one: usize,
+)
+    requires { ⌜ (at + h * stride + 2 + o .p1 ≤ length (now s) + stride) × (to + h * width + 2 ≤ length (now d) + width) × Ordered o × Small t ⌝ }
+    requires { ⌜ ((y x : ℕ) → y < h → x < 2 → Bounded 1023 (now s) (at + y * stride + x) o) ⌝ }
+    requires { ⌜ one ≡ 1 ⌝ }
+    ensures { λ _. ⌜ now (d .exit) ≡ withBlock (now (d .entry)) to width 2 h (λ (y x : ℕ). quarterAt (now (s .entry)) (at + y * stride + x) o t) ⌝ }
+{
+    let mut y = 0;
+    while y < h {
+        quarter_pair(s, at + y * stride, o, t, d, to + y * width);
+        y += one;
     }
 }
 
@@ -302,16 +398,20 @@ pub fn quarter_block(
     width: usize,
     one: usize,
 )
-    requires { ⌜ (at + h * stride + n + o .p1 ≤ length (now s) + stride) × (to + h * width + n ≤ length (now d) + width) × (isRowWidth n ≡ true) × Ordered o × Small t ⌝ }
+    requires { ⌜ (at + h * stride + n + o .p1 ≤ length (now s) + stride) × (to + h * width + n ≤ length (now d) + width) × (isRowWidth n ≡ true) × (n ≤ 8) × Ordered o × Small t ⌝ }
     requires { ⌜ ((y x : ℕ) → y < h → x < n → Bounded 1023 (now s) (at + y * stride + x) o) ⌝ }
     requires { ⌜ one ≡ 1 ⌝ }
     ensures { λ _. ⌜ now (d .exit) ≡ withBlock (now (d .entry)) to width n h (λ (y x : ℕ). quarterAt (now (s .entry)) (at + y * stride + x) o t) ⌝ }
 {
-    let mut y = 0;
-    while y < h {
-        quarter_row(s, at + y * stride, n, o, t, d, to + y * width, one);
-        y += one;
+    if n == 4 {
+        quarter_quads(s, at, stride, h, o, t, d, to, width, one);
+        return;
     }
+    if n == 2 {
+        quarter_pairs(s, at, stride, h, o, t, d, to, width, one);
+        return;
+    }
+    quarter_octs(s, at, stride, h, o, t, d, to, width, one);
 }
 
 fn one_oct(s: &[u16], at: usize, o: Offsets, t: Taps, d: &mut [u16], to: usize)
@@ -363,33 +463,69 @@ fn one_pair(s: &[u16], at: usize, o: Offsets, t: Taps, d: &mut [u16], to: usize)
     d[to + 1] = v1;
 }
 
-fn one_row(
+fn one_octs(
     s: &[u16],
     at: usize,
-    n: usize,
+    stride: usize,
+    h: usize,
     o: Offsets,
     t: Taps,
     d: &mut [u16],
     to: usize,
-    one: usize,
+    width: usize,
 )
-    requires { ⌜ (at + n + o .p1 ≤ length (now s)) × (to + n ≤ length (now d)) × (isRowWidth n ≡ true) × Ordered o × Small t ⌝ }
-    requires { ⌜ ((x : ℕ) → x < n → Bounded 1023 (now s) (at + x) o) ⌝ }
-    requires { ⌜ one ≡ 1 ⌝ }
-    ensures { λ _. ⌜ now (d .exit) ≡ withRow (now (d .entry)) to n (λ (x : ℕ). oneAt (now (s .entry)) (at + x) o t) ⌝ }
+    requires { ⌜ (at + h * stride + 8 + o .p1 ≤ length (now s) + stride) × (to + h * width + 8 ≤ length (now d) + width) × Ordered o × Small t ⌝ }
+    requires { ⌜ ((y x : ℕ) → y < h → x < 8 → Bounded 1023 (now s) (at + y * stride + x) o) ⌝ }
+    ensures { λ _. ⌜ now (d .exit) ≡ withBlock (now (d .entry)) to width 8 h (λ (y x : ℕ). oneAt (now (s .entry)) (at + y * stride + x) o t) ⌝ }
 {
-    if n == 4 {
-        one_quad(s, at, o, t, d, to);
-        return;
+    let mut y = 0;
+    while y < h {
+        one_oct(s, at + y * stride, o, t, d, to + y * width);
+        y += 1;
     }
-    if n == 2 {
-        one_pair(s, at, o, t, d, to);
-        return;
+}
+
+fn one_quads(
+    s: &[u16],
+    at: usize,
+    stride: usize,
+    h: usize,
+    o: Offsets,
+    t: Taps,
+    d: &mut [u16],
+    to: usize,
+    width: usize,
+)
+    requires { ⌜ (at + h * stride + 4 + o .p1 ≤ length (now s) + stride) × (to + h * width + 4 ≤ length (now d) + width) × Ordered o × Small t ⌝ }
+    requires { ⌜ ((y x : ℕ) → y < h → x < 4 → Bounded 1023 (now s) (at + y * stride + x) o) ⌝ }
+    ensures { λ _. ⌜ now (d .exit) ≡ withBlock (now (d .entry)) to width 4 h (λ (y x : ℕ). oneAt (now (s .entry)) (at + y * stride + x) o t) ⌝ }
+{
+    let mut y = 0;
+    while y < h {
+        one_quad(s, at + y * stride, o, t, d, to + y * width);
+        y += 1;
     }
-    let mut x = 0;
-    while x + 8 <= n {
-        one_oct(s, at + x, o, t, d, to + x);
-        x += 8 * one;
+}
+
+fn one_pairs(
+    s: &[u16],
+    at: usize,
+    stride: usize,
+    h: usize,
+    o: Offsets,
+    t: Taps,
+    d: &mut [u16],
+    to: usize,
+    width: usize,
+)
+    requires { ⌜ (at + h * stride + 2 + o .p1 ≤ length (now s) + stride) × (to + h * width + 2 ≤ length (now d) + width) × Ordered o × Small t ⌝ }
+    requires { ⌜ ((y x : ℕ) → y < h → x < 2 → Bounded 1023 (now s) (at + y * stride + x) o) ⌝ }
+    ensures { λ _. ⌜ now (d .exit) ≡ withBlock (now (d .entry)) to width 2 h (λ (y x : ℕ). oneAt (now (s .entry)) (at + y * stride + x) o t) ⌝ }
+{
+    let mut y = 0;
+    while y < h {
+        one_pair(s, at + y * stride, o, t, d, to + y * width);
+        y += 1;
     }
 }
 
@@ -404,18 +540,20 @@ pub fn one_block(
     d: &mut [u16],
     to: usize,
     width: usize,
-    one: usize,
 )
-    requires { ⌜ (at + h * stride + n + o .p1 ≤ length (now s) + stride) × (to + h * width + n ≤ length (now d) + width) × (isRowWidth n ≡ true) × Ordered o × Small t ⌝ }
+    requires { ⌜ (at + h * stride + n + o .p1 ≤ length (now s) + stride) × (to + h * width + n ≤ length (now d) + width) × (isRowWidth n ≡ true) × (n ≤ 8) × Ordered o × Small t ⌝ }
     requires { ⌜ ((y x : ℕ) → y < h → x < n → Bounded 1023 (now s) (at + y * stride + x) o) ⌝ }
-    requires { ⌜ one ≡ 1 ⌝ }
     ensures { λ _. ⌜ now (d .exit) ≡ withBlock (now (d .entry)) to width n h (λ (y x : ℕ). oneAt (now (s .entry)) (at + y * stride + x) o t) ⌝ }
 {
-    let mut y = 0;
-    while y < h {
-        one_row(s, at + y * stride, n, o, t, d, to + y * width, one);
-        y += one;
+    if n == 4 {
+        one_quads(s, at, stride, h, o, t, d, to, width);
+        return;
     }
+    if n == 2 {
+        one_pairs(s, at, stride, h, o, t, d, to, width);
+        return;
+    }
+    one_octs(s, at, stride, h, o, t, d, to, width);
 }
 
 fn split_oct(s: &[u16], at: usize, o: Offsets, t: Taps, d: &mut [u16], to: usize)
@@ -467,33 +605,75 @@ fn split_pair(s: &[u16], at: usize, o: Offsets, t: Taps, d: &mut [u16], to: usiz
     d[to + 1] = v1;
 }
 
-fn split_row(
+fn split_octs(
     s: &[u16],
     at: usize,
-    n: usize,
+    stride: usize,
+    h: usize,
     o: Offsets,
     t: Taps,
     d: &mut [u16],
     to: usize,
+    width: usize,
     one: usize,
 )
-    requires { ⌜ (at + n + o .p1 ≤ length (now s)) × (to + n ≤ length (now d)) × (isRowWidth n ≡ true) × Ordered o × Small t ⌝ }
-    requires { ⌜ ((x : ℕ) → x < n → Bounded 26603 (now s) (at + x) o) ⌝ }
+    requires { ⌜ (at + h * stride + 8 + o .p1 ≤ length (now s) + stride) × (to + h * width + 8 ≤ length (now d) + width) × Ordered o × Small t ⌝ }
+    requires { ⌜ ((y x : ℕ) → y < h → x < 8 → Bounded 26603 (now s) (at + y * stride + x) o) ⌝ }
     requires { ⌜ one ≡ 1 ⌝ }
-    ensures { λ _. ⌜ now (d .exit) ≡ withRow (now (d .entry)) to n (λ (x : ℕ). splitAt (now (s .entry)) (at + x) o t) ⌝ }
+    ensures { λ _. ⌜ now (d .exit) ≡ withBlock (now (d .entry)) to width 8 h (λ (y x : ℕ). splitAt (now (s .entry)) (at + y * stride + x) o t) ⌝ }
 {
-    if n == 4 {
-        split_quad(s, at, o, t, d, to);
-        return;
+    let mut y = 0;
+    while y < h {
+        split_oct(s, at + y * stride, o, t, d, to + y * width);
+        y += one;
     }
-    if n == 2 {
-        split_pair(s, at, o, t, d, to);
-        return;
+}
+
+fn split_quads(
+    s: &[u16],
+    at: usize,
+    stride: usize,
+    h: usize,
+    o: Offsets,
+    t: Taps,
+    d: &mut [u16],
+    to: usize,
+    width: usize,
+    one: usize,
+)
+    requires { ⌜ (at + h * stride + 4 + o .p1 ≤ length (now s) + stride) × (to + h * width + 4 ≤ length (now d) + width) × Ordered o × Small t ⌝ }
+    requires { ⌜ ((y x : ℕ) → y < h → x < 4 → Bounded 26603 (now s) (at + y * stride + x) o) ⌝ }
+    requires { ⌜ one ≡ 1 ⌝ }
+    ensures { λ _. ⌜ now (d .exit) ≡ withBlock (now (d .entry)) to width 4 h (λ (y x : ℕ). splitAt (now (s .entry)) (at + y * stride + x) o t) ⌝ }
+{
+    let mut y = 0;
+    while y < h {
+        split_quad(s, at + y * stride, o, t, d, to + y * width);
+        y += one;
     }
-    let mut x = 0;
-    while x + 8 <= n {
-        split_oct(s, at + x, o, t, d, to + x);
-        x += 8 * one;
+}
+
+fn split_pairs(
+    s: &[u16],
+    at: usize,
+    stride: usize,
+    h: usize,
+    o: Offsets,
+    t: Taps,
+    d: &mut [u16],
+    to: usize,
+    width: usize,
+    one: usize,
+)
+    requires { ⌜ (at + h * stride + 2 + o .p1 ≤ length (now s) + stride) × (to + h * width + 2 ≤ length (now d) + width) × Ordered o × Small t ⌝ }
+    requires { ⌜ ((y x : ℕ) → y < h → x < 2 → Bounded 26603 (now s) (at + y * stride + x) o) ⌝ }
+    requires { ⌜ one ≡ 1 ⌝ }
+    ensures { λ _. ⌜ now (d .exit) ≡ withBlock (now (d .entry)) to width 2 h (λ (y x : ℕ). splitAt (now (s .entry)) (at + y * stride + x) o t) ⌝ }
+{
+    let mut y = 0;
+    while y < h {
+        split_pair(s, at + y * stride, o, t, d, to + y * width);
+        y += one;
     }
 }
 
@@ -510,14 +690,18 @@ pub fn split_block(
     width: usize,
     one: usize,
 )
-    requires { ⌜ (at + h * stride + n + o .p1 ≤ length (now s) + stride) × (to + h * width + n ≤ length (now d) + width) × (isRowWidth n ≡ true) × Ordered o × Small t ⌝ }
+    requires { ⌜ (at + h * stride + n + o .p1 ≤ length (now s) + stride) × (to + h * width + n ≤ length (now d) + width) × (isRowWidth n ≡ true) × (n ≤ 8) × Ordered o × Small t ⌝ }
     requires { ⌜ ((y x : ℕ) → y < h → x < n → Bounded 26603 (now s) (at + y * stride + x) o) ⌝ }
     requires { ⌜ one ≡ 1 ⌝ }
     ensures { λ _. ⌜ now (d .exit) ≡ withBlock (now (d .entry)) to width n h (λ (y x : ℕ). splitAt (now (s .entry)) (at + y * stride + x) o t) ⌝ }
 {
-    let mut y = 0;
-    while y < h {
-        split_row(s, at + y * stride, n, o, t, d, to + y * width, one);
-        y += one;
+    if n == 4 {
+        split_quads(s, at, stride, h, o, t, d, to, width, one);
+        return;
     }
+    if n == 2 {
+        split_pairs(s, at, stride, h, o, t, d, to, width, one);
+        return;
+    }
+    split_octs(s, at, stride, h, o, t, d, to, width, one);
 }

@@ -1,80 +1,43 @@
--- `evc_filter::split_block` meets its contract. The invariant: the first y rows are written. Assumes nothing.
-use Prim.Native.Nat.{ℕ, _+_, _-_, _*_, _<_, _≤_}
-use mathlib.Core.Path.{_≡_, refl, _∙_}
+-- `evc_filter::split_block` meets its contract: one of the lanes, by the width. Assumes nothing.
+use Prim.Native.Nat.{ℕ, _+_, _*_, _<_, _≤_}
+use mathlib.Core.Path.{_≡_}
 use native.Mathlib.Omega.{arith}
+use borrow.Author.Needs.{needs}
 use lib.ListN.{length}
-use Rattle.evc_int.specs.Lists.{withBlock}
-use Rattle.evc_int.proofs.Lists.{row-fits, block-step, block-done}
-use Rattle.evc_filter.specs.Code.{splitAt}
-use Rattle.evc_filter.proofs.Lanes.{as-many}
+use Rattle.evc_filter.specs.Code.{Ordered, Small, Bounded}
+use Rattle.evc_filter.proofs.Lanes.{eights, as-wide}
 use Rattle.evc_filter.proofs.split_block.Statement.{statement}
 use Rattle.evc_filter.proofs.split_block.Tie as tie
 
-abbrev Inv-loop : tie.InvT-loop
-Inv-loop s at stride n h o t d₀ to width one y₀ d y = (y ≤ h) × (length d ≡ length d₀) × (d ≡ withBlock d₀ to width n y (λ (i x : ℕ). splitAt s (at + i * stride + x) o t))
+-- what lanes ask, where the block is as wide as they are
+asks : (s : tie.Start) (k : ℕ) → s .args .n ≡ k → ((s .args .at + s .args .h * s .args .stride + k + s .args .o .p1 ≤ length (s .args .s .now) + s .args .stride) × (s .args .to + s .args .h * s .args .width + k ≤ length (s .args .d .now) + s .args .width) × Ordered (s .args .o) × Small (s .args .t)) × (((y x : ℕ) → y < s .args .h → x < k → Bounded 26603 (s .args .s .now) (s .args .at + y * s .args .stride + x) (s .args .o)) × (s .args .one ≡ 1))
+asks s k e = let p = s .pre .0 in ((omega (arith, p .0), omega (arith, p .1), p .4, p .5), (λ y x ly lx. s .pre .1 .0 y x ly (omega arith), s .pre .1 .1))
 
-abbrev μ-loop : tie.MeasureT-loop
-μ-loop s at stride n h o t d₀ to width one y₀ d y = h - y
+abbrev start : tie.Else1 → tie.Start
+start c = c .before .before .before
 
-abbrev start : tie.In-loop Inv-loop μ-loop → tie.Start Inv-loop μ-loop
-start c = c .before .before .before .before
+eight : (c : tie.Else2) → start (c .before) .args .n ≡ 8
+eight c = let p = start (c .before) .pre .0 in let e = eights _ (p .2) (c .before .if1 .left) (c .if2 .left) in omega (arith, p .3)
 
--- row y lies within both
-rows : (c : tie.In-loop Inv-loop μ-loop) → let a = start c .args in let y = c .before .loop .y in (a .at + y * a .stride + a .n + a .o .p1 ≤ length (a .s .now)) × (a .to + y * a .width + a .n ≤ length (a .d .now))
-rows c =
-    let a = start c .args in
-    let p = start c .pre .0 in
-    (omega (arith, row-fits (a .stride) (c .loop-test .taken)), omega (arith, row-fits (a .width) (c .loop-test .taken)))
+returns : tie.Need-returns
+returns c = let q = c .before .before in as-wide _ _ _ _ _ _ _ _ (q .before .before .if1 .taken) (q .split-quads .ensures)
 
-fits : (c : tie.In-loop Inv-loop μ-loop) → let a = start c .args in let y = c .before .loop .y in (a .at + y * a .stride < 18446744073709551616) × (a .to + y * a .width < 18446744073709551616)
-fits c =
-    let r = rows c in
-    let l = lengths (start c) in
-    (omega arith, omega arith)
-  where
-    lengths : (s : tie.Start Inv-loop μ-loop) → (length (s .args .s .now) < 18446744073709551616) × (length (s .args .d .now) < 18446744073709551616)
-    lengths s = (omega arith, omega arith)
+returns-2 : tie.Need-returns-2
+returns-2 c = let q = c .before .before in as-wide _ _ _ _ _ _ _ _ (q .before .before .if2 .taken) (q .split-pairs .ensures)
 
-loop-holds : tie.Need-loop-holds Inv-loop μ-loop
-unfolding withBlock
-loop-holds c = (omega arith, refl, refl)
-
-split-row-requires : tie.Need-split-row-requires Inv-loop μ-loop
-split-row-requires c κs =
-    let k = c .before in
-    let p = start k .pre in
-    let r = rows k in
-    ((r .0, (let e = k .before .loop .inv .1 in let b = r .1 in omega arith), p .0 .2, p .0 .3, p .0 .4), (λ x b. p .1 .0 (k .before .loop .y) x (k .loop-test .taken) b, p .1 .1))
-
-loop-again : tie.Need-loop-again Inv-loop μ-loop
-loop-again c =
-    let q = c .before .before in
-    let k = q .before .before in
-    let l = k .before .loop in
-    let one : start k .args .one ≡ 1 = start k .pre .1 .1 in
-    let e : l .y + start k .args .one ≡ l .y + 1 = omega arith in (
-      (let t = k .loop-test .taken in omega arith),
-      q .split-row .kept .1 .1 .1 .1 .1 .0 ∙ l .inv .1,
-      as-many _ _ _ _ _ _ _ _ e (block-step _ _ _ _ _ _ _ _ (l .inv .2) (q .split-row .ensures)),
-    )
-
-returns : tie.Need-returns Inv-loop μ-loop
-returns c = let i = c .before .loop .inv in block-done _ _ _ _ _ _ _ _ (i .2) (i .0) (c .loop-test .left)
+returns-3 : tie.Need-returns-3
+returns-3 c = let q = c .before .before in as-wide _ _ _ _ _ _ _ _ (eight (q .before .before)) (q .split-octs .ensures)
 
 pub split-block-spec : {M : Type 1} → statement M
 split-block-spec =
     tie.close
     (tie.spec
-    Inv-loop
-    μ-loop
-    loop-holds
-    (λ c. record { fits = omega (arith, fits c .0) })
-    (λ c. record { fits = omega (arith, fits c .0) })
-    (λ c. record { fits = omega (arith, fits (c .before) .1) })
-    (λ c. record { fits = omega (arith, fits (c .before) .1) })
-    split-row-requires
-    (λ c. record { fits = let k = c .before .before .before .before in let l = k .loop-test .taken in let o = start k .pre .1 .1 in let h = start k .fits .h in omega arith })
-    (λ c. let k = c .before .before .before .before in let l = k .loop-test .taken in let o = start k .pre .1 .1 in omega arith)
-    loop-again
-    (λ c. c .before .loop .inv .1)
-    returns)
+    (λ c κs. asks (c .before .before .before .before) 4 (c .before .if1 .taken))
+    (λ c. search needs)
+    returns
+    (λ c κs. asks (start (c .before .before)) 2 (c .before .if2 .taken))
+    (λ c. search needs)
+    returns-2
+    (λ c κs. asks (start (c .before .before)) 8 (eight (c .before)))
+    (λ c. search needs)
+    returns-3)
