@@ -28,9 +28,10 @@ use Rattle.evc_plane.specs.Planes.{padOf, originOf, sideOf, strideOf, planeLen,
 use Rattle.evc_plane.proofs.Laws.{window-fits}
 use Rattle.evc_plane.proofs.Samples.{exceeds-none}
 use Rattle.evc_plane.proofs.Sizes.{sizes}
-use Rattle.evc_filter.specs.Filter.{phases, lead, reach}
+use Rattle.evc_filter.specs.Filter.{phases, lead, reach, interpolated}
 use Rattle.evc_filter.specs.Code.{isRowWidth}
-use Rattle.evc_interp.specs.Prediction.{phaseOf, placeOf, isFiltered, startOf, windowOf, sampleBy, predicted, isSide, windowExceeds, mcPlaneCode, Within}
+use Rattle.evc_interp.specs.Prediction.{phaseOf, placeOf, isFiltered, startOf, windowOf, sampleBy, predicted, isSide, windowExceeds, mcPlaneCode}
+use Rattle.evc_interp.specs.Code.{Within}
 
 pub all-true : (a b : Bool) → not (a && b) ≡ false → (a ≡ true) × (b ≡ true)
 all-true true true e = (refl, refl)
@@ -45,6 +46,7 @@ none-true false false e = (refl, refl)
 -- ---- a block's side
 
 pub record Side (k : PlaneType) (n : ℕ) : Type 0 where
+  pub some : 0 < n
   pub high : n ≤ sideOf k 64
   pub small : n ≤ 64
   pub room : n + reach k ≤ padOf k
@@ -67,14 +69,14 @@ one-of P n a b c d e h pa pb pc pd pe =
     at m t p = subst P (sym (eqb→eq n m t)) p
 
 pub side : (k : PlaneType) (n : ℕ) → isSide k n ≡ true → Side k n
-side Y n e = one-of (Side Y) n 4 8 16 32 64 e (of 4 (omega arith) refl) (of 8 (omega arith) refl) (of 16 (omega arith) refl) (of 32 (omega arith) refl) (of 64 (omega arith) refl)
+side Y n e = one-of (Side Y) n 4 8 16 32 64 e (of 4 (omega arith) (omega arith) refl) (of 8 (omega arith) (omega arith) refl) (of 16 (omega arith) (omega arith) refl) (of 32 (omega arith) (omega arith) refl) (of 64 (omega arith) (omega arith) refl)
   where
-    of : (n : ℕ) → n ≤ 64 → isRowWidth n ≡ true → Side Y n
-    of n l e = record { high = l; small = l; room = omega arith; total = omega arith; width = e }
-side UV n e = one-of (Side UV) n 2 4 8 16 32 e (of 2 (omega arith) refl) (of 4 (omega arith) refl) (of 8 (omega arith) refl) (of 16 (omega arith) refl) (of 32 (omega arith) refl)
+    of : (n : ℕ) → 0 < n → n ≤ 64 → isRowWidth n ≡ true → Side Y n
+    of n b l e = record { some = b; high = l; small = l; room = omega arith; total = omega arith; width = e }
+side UV n e = one-of (Side UV) n 2 4 8 16 32 e (of 2 (omega arith) (omega arith) refl) (of 4 (omega arith) (omega arith) refl) (of 8 (omega arith) (omega arith) refl) (of 16 (omega arith) (omega arith) refl) (of 32 (omega arith) (omega arith) refl)
   where
-    of : (n : ℕ) → n ≤ 32 → isRowWidth n ≡ true → Side UV n
-    of n l e = record { high = l; small = omega arith; room = omega arith; total = omega arith; width = e }
+    of : (n : ℕ) → 0 < n → n ≤ 32 → isRowWidth n ≡ true → Side UV n
+    of n b l e = record { some = b; high = l; small = omega arith; room = omega arith; total = omega arith; width = e }
 
 -- ---- a start that is `m` less instead of `l` less, in one direction
 
@@ -194,6 +196,27 @@ pub path-gives : (k : PlaneType) (W H : ℕ) (ori gmv : EvcMv) (w h : ℕ) (s d 
 unfolding predicted
 path-gives k W H ori gmv w h s d across down at S dx dy ea ed e f ex ey =
     withBlock-ext d 0 w w h _ _ (λ y x ly lx. rw (e, f, ex, ey) (ap₂ (λ (a b : Bool). sampleBy k a b (phaseOf k (gmv .x)) (phaseOf k (gmv .y)) s (windowOf k W H a b gmv + y * strideOf k W + x) (strideOf k W)) ea ed))
+
+-- ---- two bits, by their conjunction and their disjunction
+
+pub both-true : (a b : Bool) → (a && b) ≡ true → (a ≡ true) × (b ≡ true)
+both-true true true e = (refl, refl)
+both-true true false e = absurd (subst T (sym e) tt)
+both-true false b e = absurd (subst T (sym e) tt)
+
+pub one-true : (a b : Bool) → (a && b) ≡ false → (a || b) ≡ true → b ≡ not a
+one-true true true e f = absurd (subst T e tt)
+one-true true false e f = refl
+one-true false true e f = refl
+one-true false false e f = absurd (subst T (sym f) tt)
+
+pub one-path : (k : PlaneType) (a : Bool) (dx dy r : ℕ) (s d : List ℕ) (w h at S : ℕ) → r ≡ cond a dx dy → withBlock d 0 w w h (λ (y x : ℕ). interpolated k r s (at + y * S + x) (cond a 1 S)) ≡ withBlock d 0 w w h (λ (y x : ℕ). sampleBy k a (not a) dx dy s (at + y * S + x) S)
+unfolding sampleBy
+one-path k a dx dy r s d w h at S e = withBlock-ext d 0 w w h _ _ (λ y x ly lx. ap (λ (i : ℕ). interpolated k i s (at + y * S + x) (cond a 1 S)) e ∙ go a (at + y * S + x))
+  where
+    go : (a : Bool) (i : ℕ) → interpolated k (cond a dx dy) s i (cond a 1 S) ≡ sampleBy k a (not a) dx dy s i S
+    go true i = refl
+    go false i = refl
 
 -- ---- what the checks ask and give
 

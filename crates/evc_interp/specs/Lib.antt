@@ -1,1 +1,2 @@
 pub mod Prediction
+pub mod Code

@@ -1,7 +1,7 @@
 -- Document 01, 'One plane': the prediction of a block of one plane. One definition for luma and chroma.
 use mathlib.Core.Bool.{Bool, true, false, not, cond, _&&_, _||_}
 use mathlib.Core.List.{List, [], _∷_}
-use Prim.Native.Nat.{ℕ, _+_, _*_, _<_, _≤_}
+use Prim.Native.Nat.{ℕ, _+_, _*_}
 use lib.Dec.{eqb, ltb}
 use lib.IntN.{ℤ, _+ℤ_}
 use lib.ListN.{length, getD}
@@ -72,9 +72,3 @@ mcPlaneCode k W H gmv w h s d =
 -- the block at the first w × h places, row after row, and all others as before; after a refusal all as before
 unfoldable pub mcPlaneAfter : PlaneType → ℕ → ℕ → EvcMv → EvcMv → ℕ → ℕ → List ℕ → List ℕ → List ℕ
 mcPlaneAfter k W H ori gmv w h s d = cond (eqb (mcPlaneCode k W H gmv w h s d) 0) (withBlock d 0 w w h (predicted k W H ori gmv s)) d
-
--- ---- what stands between the checks and the paths
-
--- no sample of a window is above 1023
-abbrev pub Within : List ℕ → ℕ → ℕ → ℕ → ℕ → Type 0
-Within s at stride n h = (y x : ℕ) → y < h → x < n → getD s (at + y * stride + x) 0 ≤ 1023

@@ -1,31 +1,89 @@
 ghost use mathlib.Core.Path.{_≡_};
 ghost use mathlib.Core.Bool.{true, false, cond};
 ghost use Prim.Native.Nat.{ℕ, _+_, _*_, _<_, _≤_};
-ghost use lib.IntN.{ℤ, pos};
+ghost use lib.IntN.{pos};
 ghost use lib.ListN.{length, getD};
 ghost use Rattle.evc_int.specs.Lists.{withRow, withBlock};
 ghost use Rattle.evc_def.specs.Blocks.{badPicture};
 ghost use Rattle.evc_plane.specs.Planes.{sideOf, planeLen};
 ghost use Rattle.evc_filter.specs.Filter.{phases, lead, reach, interpolated, interpolatedTwice};
 ghost use Rattle.evc_filter.specs.Code.{isRowWidth};
-ghost use Rattle.evc_interp.specs.Prediction.{phaseOf, placeOf, isFiltered, startOf, windowOf, predicted, isSide, windowExceeds, mcPlaneCode, mcPlaneAfter, Within};
+ghost use Rattle.evc_interp.specs.Prediction.{phaseOf, placeOf, isFiltered, startOf, windowOf, predicted, isSide, windowExceeds, mcPlaneCode, mcPlaneAfter};
+ghost use Rattle.evc_interp.specs.Code.{Within};
 use evc_def::EvcMv;
 use evc_def::Pel;
 use evc_plane::PlaneType;
 
 // ---- the four paths, by the directions that are filtered: across and down
 
+fn copy_oct(s: &[u16], at: usize, d: &mut [u16], to: usize)
+    requires { ⌜ (at + 8 ≤ length (now s)) × (to + 8 ≤ length (now d)) ⌝ }
+    ensures { λ _. ⌜ now (d .exit) ≡ withRow (now (d .entry)) to 8 (λ (x : ℕ). getD (now (s .entry)) (at + x) 0) ⌝ }
+{
+    let v0 = s[at];
+    let v1 = s[at + 1];
+    let v2 = s[at + 2];
+    let v3 = s[at + 3];
+    let v4 = s[at + 4];
+    let v5 = s[at + 5];
+    let v6 = s[at + 6];
+    let v7 = s[at + 7];
+    d[to] = v0;
+    d[to + 1] = v1;
+    d[to + 2] = v2;
+    d[to + 3] = v3;
+    d[to + 4] = v4;
+    d[to + 5] = v5;
+    d[to + 6] = v6;
+    d[to + 7] = v7;
+}
+
+fn copy_quad(s: &[u16], at: usize, d: &mut [u16], to: usize)
+    requires { ⌜ (at + 4 ≤ length (now s)) × (to + 4 ≤ length (now d)) ⌝ }
+    ensures { λ _. ⌜ now (d .exit) ≡ withRow (now (d .entry)) to 4 (λ (x : ℕ). getD (now (s .entry)) (at + x) 0) ⌝ }
+{
+    let v0 = s[at];
+    let v1 = s[at + 1];
+    let v2 = s[at + 2];
+    let v3 = s[at + 3];
+    d[to] = v0;
+    d[to + 1] = v1;
+    d[to + 2] = v2;
+    d[to + 3] = v3;
+}
+
+fn copy_pair(s: &[u16], at: usize, d: &mut [u16], to: usize)
+    requires { ⌜ (at + 2 ≤ length (now s)) × (to + 2 ≤ length (now d)) ⌝ }
+    ensures { λ _. ⌜ now (d .exit) ≡ withRow (now (d .entry)) to 2 (λ (x : ℕ). getD (now (s .entry)) (at + x) 0) ⌝ }
+{
+    let v0 = s[at];
+    let v1 = s[at + 1];
+    d[to] = v0;
+    d[to + 1] = v1;
+}
+
+// All samples of a lane are read before one is written, so that each is one vector.
 fn copy_row(s: &[u16], n: usize, d: &mut [u16], to: usize)
-    requires { ⌜ (n ≤ length (now s)) × (to + n ≤ length (now d)) ⌝ }
+    requires { ⌜ (n ≤ length (now s)) × (to + n ≤ length (now d)) × (isRowWidth n ≡ true) ⌝ }
     ensures { λ _. ⌜ now (d .exit) ≡ withRow (now (d .entry)) to n (λ (x : ℕ). getD (now (s .entry)) x 0) ⌝ }
 {
-    for x in 0..n {
-        d[to + x] = s[x];
+    if n == 4 {
+        copy_quad(s, 0, d, to);
+        return;
+    }
+    if n == 2 {
+        copy_pair(s, 0, d, to);
+        return;
+    }
+    let mut x = 0;
+    while x + 8 <= n {
+        copy_oct(s, x, d, to + x);
+        x += 8;
     }
 }
 
 fn evc_mc_00(s: &[u16], at: usize, stride: usize, w: usize, h: usize, pred: &mut [u16])
-    requires { ⌜ (at + h * stride + w ≤ length (now s) + stride) × (h * w ≤ length (now pred)) ⌝ }
+    requires { ⌜ (at + h * stride + w ≤ length (now s) + stride) × (h * w ≤ length (now pred)) × (isRowWidth w ≡ true) ⌝ }
     ensures { λ _. ⌜ now (pred .exit) ≡ withBlock (now (pred .entry)) 0 w w h (λ (y x : ℕ). getD (now (s .entry)) (at + y * stride + x) 0) ⌝ }
 {
     for y in 0..h {
@@ -33,11 +91,12 @@ fn evc_mc_00(s: &[u16], at: usize, stride: usize, w: usize, h: usize, pred: &mut
     }
 }
 
-// 1, by a sum that the optimizer does not know: see evc_filter's blocks. It knows the sides, but no bound of a length.
-fn unit(s: &[u16]) -> usize
+// 1, by a sum that the optimizer does not know: see evc_filter's blocks.
+fn unit(h: usize) -> usize
+    requires { ⌜ h ≤ 64 ⌝ }
     ensures { λ r. ⌜ r ≡ 1 ⌝ }
 {
-    1 + s.len() / 0x8000000000000000
+    1 + h / 128
 }
 
 // MC_IBUF_PAD_L, MC_IBUF_PAD_C: how many rows more the first stage has.
@@ -50,62 +109,40 @@ fn rows_more(t: PlaneType) -> usize
     }
 }
 
-fn evc_mc_n0(
-    t: PlaneType,
-    s: &[u16],
-    at: usize,
-    stride: usize,
-    w: usize,
-    h: usize,
-    dx: usize,
-    pred: &mut [u16],
-)
-    requires { ⌜ (at + h * stride + (w + reach t) ≤ length (now s) + stride) × (h * w ≤ length (now pred)) × (isRowWidth w ≡ true) × (dx < phases t) ⌝ }
-    requires { ⌜ Within (now s) at stride (w + reach t) h ⌝ }
-    ensures { λ _. ⌜ now (pred .exit) ≡ withBlock (now (pred .entry)) 0 w w h (λ (y x : ℕ). interpolated t dx (now (s .entry)) (at + y * stride + x) 1) ⌝ }
+fn either(first: bool, a: usize, b: usize) -> usize
+    ensures { λ r. ⌜ r ≡ cond first a b ⌝ }
 {
-    evc_filter::one_block(
-        s,
-        at,
-        stride,
-        w,
-        h,
-        evc_filter::offsets_of(t, 1),
-        evc_filter::taps_of(t, dx),
-        pred,
-        0,
-        w,
-        unit(s),
-    );
+    if first { a } else { b }
 }
 
-fn evc_mc_0n(
+// One direction, across or down. By groups of eight columns; a block of 4 or 2 columns is one group.
+fn evc_mc_one(
     t: PlaneType,
     s: &[u16],
     at: usize,
     stride: usize,
+    across: bool,
     w: usize,
     h: usize,
-    dy: usize,
+    phase: usize,
     pred: &mut [u16],
 )
-    requires { ⌜ (at + (h + reach t) * stride + w ≤ length (now s) + stride) × (h * w ≤ length (now pred)) × (isRowWidth w ≡ true) × (dy < phases t) × (stride ≤ 65535) ⌝ }
-    requires { ⌜ Within (now s) at stride w (h + reach t) ⌝ }
-    ensures { λ _. ⌜ now (pred .exit) ≡ withBlock (now (pred .entry)) 0 w w h (λ (y x : ℕ). interpolated t dy (now (s .entry)) (at + y * stride + x) stride) ⌝ }
+    requires { ⌜ (at + (h + cond across 0 (reach t)) * stride + (w + cond across (reach t) 0) ≤ length (now s) + stride) × (h * w ≤ length (now pred)) ⌝ }
+    requires { ⌜ (isRowWidth w ≡ true) × (w ≤ 64) × (0 < h) × (phase < phases t) × (stride ≤ 65535) ⌝ }
+    requires { ⌜ Within (now s) at stride (w + cond across (reach t) 0) (h + cond across 0 (reach t)) ⌝ }
+    ensures { λ _. ⌜ now (pred .exit) ≡ withBlock (now (pred .entry)) 0 w w h (λ (y x : ℕ). interpolated t phase (now (s .entry)) (at + y * stride + x) (cond across 1 stride)) ⌝ }
 {
-    evc_filter::one_block(
-        s,
-        at,
-        stride,
-        w,
-        h,
-        evc_filter::offsets_of(t, stride),
-        evc_filter::taps_of(t, dy),
-        pred,
-        0,
-        w,
-        unit(s),
-    );
+    let o = evc_filter::offsets_of(t, either(across, 1, stride));
+    let taps = evc_filter::taps_of(t, phase);
+    if w < 8 {
+        evc_filter::one_block(s, at, stride, w, h, o, taps, pred, 0, w);
+        return;
+    }
+    let mut cg = 0;
+    while cg + 8 <= w {
+        evc_filter::one_block(s, at + cg, stride, 8, h, o, taps, pred, cg, w);
+        cg += 8;
+    }
 }
 
 // n columns of a block: the first stage goes through m, eight numbers a row.
@@ -128,7 +165,7 @@ fn columns(
     requires { ⌜ Within (now s) at stride (n + reach t) (h + reach t) ⌝ }
     ensures { λ _. ⌜ now (pred .exit) ≡ withBlock (now (pred .entry)) to w n h (λ (y x : ℕ). interpolatedTwice t dx dy (now (s .entry)) (at + y * stride + x) stride) ⌝ }
 {
-    let one = unit(s);
+    let one = unit(h);
     evc_filter::quarter_block(
         s,
         at,
@@ -157,7 +194,7 @@ fn columns(
     );
 }
 
-// By groups of eight columns, as the Rust; a block of 4 or 2 columns is one group.
+// By groups of eight columns, as the Rust.
 fn groups(
     t: PlaneType,
     s: &[u16],
@@ -359,14 +396,15 @@ fn predict(
     let at = window(t, pic_w, pic_h, across, down, gmv);
     let dx = phase(t, gmv.x);
     let dy = phase(t, gmv.y);
-    match across {
-        false => match down {
+    // One call for one direction: with two it would not be built into this function, which costs a small block a fifth of its time.
+    match across & down {
+        true => evc_mc_nn(t, plane, at, stride, w, h, dx, dy, pred),
+        false => match across | down {
+            true => {
+                let phase = either(across, dx, dy);
+                evc_mc_one(t, plane, at, stride, across, w, h, phase, pred);
+            }
             false => evc_mc_00(plane, at, stride, w, h, pred),
-            true => evc_mc_0n(t, plane, at, stride, w, h, dy, pred),
-        },
-        true => match down {
-            false => evc_mc_n0(t, plane, at, stride, w, h, dx, pred),
-            true => evc_mc_nn(t, plane, at, stride, w, h, dx, dy, pred),
         },
     }
 }

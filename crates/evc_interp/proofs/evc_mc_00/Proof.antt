@@ -46,6 +46,7 @@ copy-row-requires c κs =
     let a = start k .args in (
       (rw (c .before .row-of .ensures) (simp length-drop (omega (arith, r .0)))),
       (let e = k .before .loop .inv .1 in omega (arith, r .1)),
+      start k .pre .2,
     )
 
 loop-again : tie.Need-loop-again Inv-loop μ-loop

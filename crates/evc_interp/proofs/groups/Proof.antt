@@ -46,12 +46,13 @@ loop-again c =
     let q = c .before .before .before .before in
     let k = q .before .before .before in
     let l = k .before .loop in
+    let a = start k .args in
     let t = k .loop-test .taken in (
       omega arith,
       (let e = l .inv .1 in omega arith),
       q .columns2 .kept .1 .1 .1 .1 .1 .1 .1 .1 .0 ∙ l .inv .2,
       q .columns2 .kept .1 .1 .1 .1 .1 .1 .1 .1 .1 .0 ∙ l .inv .3,
-      group-step _ _ _ _ _ _ _ _ _ _ _ _ t (l .inv .4) (q .columns2 .ensures),
+      group-step (λ (i : ℕ). interpolatedTwice (a .t) (a .dx) (a .dy) (a .s .now) i (a .stride)) _ _ _ _ _ _ _ _ t (l .inv .4) (q .columns2 .ensures),
     )
 
 returns-2 : tie.Need-returns-2 Inv-loop μ-loop

@@ -1,6 +1,6 @@
 -- `evc_interp::predict` meets its contract: each path reads only what was examined, and gives the samples of the definition. Assumes nothing.
-use mathlib.Core.Path.{_≡_, sym, ap, ap₂, _∙_}
-use mathlib.Core.Bool.{Bool, true, false, cond}
+use mathlib.Core.Path.{_≡_, refl, sym, ap, ap₂, _∙_}
+use mathlib.Core.Bool.{Bool, true, false, not, cond}
 use Prim.Native.Nat.{ℕ, _+_, _*_, _≤_, _<_}
 use native.Mathlib.Nat.{mul-comm}
 use native.Mathlib.Omega.{arith}
@@ -13,8 +13,9 @@ use borrow.Author.Needs.{needs}
 use Rattle.evc_int.specs.Lists.{withBlock}
 use Rattle.evc_plane.specs.Planes.{strideOf}
 use Rattle.evc_filter.specs.Filter.{phases, reach}
-use Rattle.evc_interp.specs.Prediction.{phaseOf, isFiltered, windowOf, sampleBy, predicted, Within}
-use Rattle.evc_interp.proofs.Windows.{Accepted, accepts, stride-is, stride-small, phase-small, path-asks, path-gives}
+use Rattle.evc_interp.specs.Prediction.{phaseOf, isFiltered, windowOf, sampleBy, predicted}
+use Rattle.evc_interp.specs.Code.{Within}
+use Rattle.evc_interp.proofs.Windows.{Accepted, accepts, stride-is, stride-small, phase-small, path-asks, path-gives, both-true, one-true, none-true, one-path}
 use Rattle.evc_interp.proofs.predict.Statement.{statement}
 use Rattle.evc_interp.proofs.predict.Tie as tie
 
@@ -62,55 +63,77 @@ module _ (p : tie.After-phase2) (across down : Bool) (ea : p .before .before .be
   gives : let a = start p .args in withBlock (a .pred .now) 0 (a .w) (a .w) (a .h) (λ (y x : ℕ). sampleBy (a .t) across down (p .before .before .phase .result) (p .phase2 .result) (a .plane .now) (p .before .before .before .before .window .result + y * p .before .before .before .before .before .before .before .before .before .plane-config .result .stride + x) (p .before .before .before .before .before .before .before .before .before .plane-config .result .stride)) ≡ withBlock (a .pred .now) 0 (a .w) (a .w) (a .h) (predicted (a .t) (a .pic-w) (a .pic-h) (a .ori-mv) (a .gmv) (a .plane .now))
   gives = let a = start p .args in path-gives (a .t) (a .pic-w) (a .pic-h) (a .ori-mv) (a .gmv) (a .w) (a .h) (a .plane .now) (a .pred .now) across down _ _ _ _ (sym ea ∙ across-is p) (sym ed ∙ down-is p) window-is (stride p) (dx-is p) (dy-is p)
 
+abbrev across-bit : tie.After-phase2 → Bool
+across-bit p = p .before .before .before .before .before .before .before .is-filtered .result
+
+abbrev down-bit : tie.After-phase2 → Bool
+down-bit p = p .before .before .before .before .before .is-filtered2 .result
+
+-- the bits of both directions, of one, and of none
+two : (c : tie.Then1) → (across-bit (c .before) ≡ true) × (down-bit (c .before) ≡ true)
+two c = both-true (across-bit (c .before)) (down-bit (c .before)) (c .if1 .taken)
+
+one : (c : tie.Then2) → let p = c .before .before in down-bit p ≡ not (across-bit p)
+one c = let p = c .before .before in one-true (across-bit p) (down-bit p) (c .before .if1 .left) (c .if2 .taken)
+
+zero : (c : tie.Else2) → let p = c .before .before in (across-bit p ≡ false) × (down-bit p ≡ false)
+zero c = none-true (across-bit (c .before .before)) (down-bit (c .before .before)) (c .if2 .left)
+
 evc-mc-nn-requires : tie.Need-evc-mc-nn-requires
 evc-mc-nn-requires c κs =
-    let p = c .before .before .before in
+    let t = c .before in
+    let p = t .before in
     let s = start p in
     let g = good s in
     let a = s .args in
-    let r = asks p true true (c .before .before .if1 .taken) (c .before .if2 .taken) (a .w + reach (a .t)) (a .h + reach (a .t)) (omega arith) (omega arith) in
+    let r = asks p true true (two t .0) (two t .1) (a .w + reach (a .t)) (a .h + reach (a .t)) (omega arith) (omega arith) in
     ((r .0, room s), ((g .w-side .width, g .w-side .small, g .h-side .high, dx-small p, dy-small p), r .1))
 
-evc-mc-n0-requires : tie.Need-evc-mc-n0-requires
-evc-mc-n0-requires c κs =
-    let p = c .before .before .before in
+evc-mc-one-requires : tie.Need-evc-mc-one-requires
+evc-mc-one-requires c κs =
+    let e = c .before in
+    let t = e .before in
+    let p = t .before .before in
     let s = start p in
     let g = good s in
     let a = s .args in
-    let r = asks p true false (c .before .before .if1 .taken) (c .before .if2 .left) (a .w + reach (a .t)) (a .h) (omega arith) (omega arith) in
-    ((r .0, room s, g .w-side .width, dx-small p), r .1)
+    let b = across-bit p in
+    let r = asks p b (not b) refl (one t) (a .w + cond b (reach (a .t)) 0) (a .h + cond b 0 (reach (a .t))) (omega arith) (other b (reach (a .t)) (a .h)) in
+    ((r .0, room s), ((g .w-side .width, g .w-side .small, g .h-side .some, chosen b _ _ _ _ (e .either .ensures) (dx-small p) (dy-small p), stride-small (a .t) (a .pic-w) (a .pic-h) _ (stride p) (g .picture)), r .1))
+  where
+    other : (b : Bool) (r h : ℕ) → h + cond b 0 r ≤ h + cond (not b) r 0
+    other true r h = omega arith
+    other false r h = omega arith
 
-evc-mc-0n-requires : tie.Need-evc-mc-0n-requires
-evc-mc-0n-requires c κs =
-    let p = c .before .before .before in
-    let s = start p in
-    let g = good s in
-    let a = s .args in
-    let r = asks p false true (c .before .before .if1 .left) (c .before .if3 .taken) (a .w) (a .h + reach (a .t)) (omega arith) (omega arith) in
-    ((r .0, room s, g .w-side .width, dy-small p, stride-small (a .t) (a .pic-w) (a .pic-h) _ (stride p) (g .picture)), r .1)
+    chosen : (b : Bool) (r x y n : ℕ) → r ≡ cond b x y → x < n → y < n → r < n
+    chosen true r x y n e lx ly = omega arith
+    chosen false r x y n e lx ly = omega arith
 
 evc-mc-00-requires : tie.Need-evc-mc-00-requires
 evc-mc-00-requires c κs =
-    let p = c .before .before .before in
+    let t = c .before in
+    let p = t .before .before in
     let s = start p in
     let a = s .args in
-    (asks p false false (c .before .before .if1 .left) (c .before .if3 .left) (a .w) (a .h) (omega arith) (omega arith) .0, room s)
+    (asks p false false (zero t .0) (zero t .1) (a .w) (a .h) (omega arith) (omega arith) .0, room s, good s .w-side .width)
 
 returns : tie.Need-returns
 unfolding sampleBy
-returns c = let q = c .before .before in let r = q .before in q .evc-mc-nn .ensures ∙ gives (r .before .before .before) true true (r .before .before .if1 .taken) (r .before .if2 .taken)
+returns c = let q = c .before .before in let t = q .before .before in q .evc-mc-nn .ensures ∙ gives (t .before) true true (two t .0) (two t .1)
 
 returns-2 : tie.Need-returns-2
-unfolding sampleBy
-returns-2 c = let q = c .before .before in let r = q .before in q .evc-mc-n0 .ensures ∙ gives (r .before .before .before) true false (r .before .before .if1 .taken) (r .before .if2 .left)
+returns-2 c =
+    let q = c .before .before in
+    let e = q .before .before in
+    let t = e .before in
+    let p = t .before .before in
+    let a = start p .args in
+    let b = across-bit p in
+    q .evc-mc-one .ensures ∙ one-path (a .t) b _ _ _ (a .plane .now) (a .pred .now) (a .w) (a .h) _ _ (e .either .ensures) ∙ gives p b (not b) refl (one t)
 
 returns-3 : tie.Need-returns-3
 unfolding sampleBy
-returns-3 c = let q = c .before .before in let r = q .before in q .evc-mc-0n .ensures ∙ gives (r .before .before .before) false true (r .before .before .if1 .left) (r .before .if3 .taken)
-
-returns-4 : tie.Need-returns-4
-unfolding sampleBy
-returns-4 c = let q = c .before .before in let r = q .before in q .evc-mc-00 .ensures ∙ gives (r .before .before .before) false false (r .before .before .if1 .left) (r .before .if3 .left)
+returns-3 c = let q = c .before .before in let t = q .before .before in q .evc-mc-00 .ensures ∙ gives (t .before .before) false false (zero t .0) (zero t .1)
 
 pub predict-spec : {M : Type 1} → statement M
 predict-spec =
@@ -123,14 +146,12 @@ predict-spec =
     (λ c κs. search needs)
     (λ c κs. search needs)
     evc-mc-nn-requires
-    evc-mc-n0-requires
-    evc-mc-0n-requires
+    (λ c κs. search needs)
+    evc-mc-one-requires
     evc-mc-00-requires
     (λ c. search needs)
     returns
     (λ c. search needs)
     returns-2
     (λ c. search needs)
-    returns-3
-    (λ c. search needs)
-    returns-4)
+    returns-3)

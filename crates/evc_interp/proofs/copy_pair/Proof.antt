@@ -1,0 +1,35 @@
+-- `evc_interp::copy_pair` meets its contract. Assumes nothing.
+use Prim.Native.Nat.{ℕ, _+_, _*_, _<_, _≤_}
+use mathlib.Core.Path.{_≡_, refl, ap}
+use native.Mathlib.Omega.{arith}
+use lib.ListN.{length, length-set, getD}
+use Rattle.evc_filter.proofs.Lanes.{two-lanes}
+use Rattle.evc_interp.proofs.copy_pair.Statement.{statement}
+use Rattle.evc_interp.proofs.copy_pair.Tie as tie
+
+-- where both rows lie
+ends : (s : tie.Start) → ((s .args .at + 2) * 2 < 18446744073709551616) × (s .args .at + 2 ≤ length (s .args .s .now)) × ((s .args .to + 2) * 2 < 18446744073709551616) × (s .args .to + 2 ≤ length (s .args .d .now))
+ends s = (omega arith, omega arith, omega arith, omega arith)
+
+returns : tie.Need-returns
+returns c =
+    let a = c .before .before .args in
+    let z : a .at ≡ a .at + 0 = omega arith in
+    two-lanes _ _ (λ (x : ℕ). getD (a .s .now) (a .at + x) 0) _ _ (ap (λ (i : ℕ). getD (a .s .now) i 0) z) refl
+
+pub copy-pair-spec : {M : Type 1} → statement M
+copy-pair-spec =
+    tie.close
+    (tie.spec
+    (λ c. record { fits = omega (arith, ends (c) .0) })
+    (λ c. omega (arith, ends (c .before) .1))
+    (λ c. record { fits = omega (arith, ends (c .before) .0) })
+    (λ c. record { fits = omega (arith, ends (c .before) .0) })
+    (λ c. omega (arith, ends (c .before .before) .1))
+    (λ c. record { fits = omega (arith, ends (c .before .before) .2) })
+    (λ c. omega (arith, ends (c .before .before) .3))
+    (λ c. record { fits = omega (arith, ends (c .before .before) .2) })
+    (λ c. record { fits = omega (arith, ends (c .before .before) .2) })
+    (λ c. simp length-set (omega (arith, ends (c .before .before) .3)))
+    (λ c. simp length-set)
+    returns)
