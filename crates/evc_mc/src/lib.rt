@@ -100,9 +100,9 @@ fn mc2_code(
 ) -> u32
     ensures { λ r. ⌜ r ≡ mc2Code b (refPicList list0 (now (y0 .entry)) (now (u0 .entry)) (now (v0 .entry))) (refPicList list1 (now (y1 .entry)) (now (u1 .entry)) (now (v1 .entry))) (now (pred0 .entry)) (now (pred1 .entry)) ⌝ }
 {
-    let code = evc_def::block_code(b);
-    if code != 0 {
-        return code;
+    let block_code = evc_def::block_code(b);
+    if block_code != 0 {
+        return block_code;
     }
     if !(list0.used | list1.used) {
         return 3;
@@ -315,5 +315,5 @@ pub fn evc_mc2(
         return code;
     }
     predict_lists(block, list0, y0, u0, v0, list1, y1, u1, v1, pred0, pred1);
-    0
+    code
 }
