@@ -9,10 +9,9 @@ use lib.ListN.{length}
 use Rattle.evc_def.specs.Codes.{firstOf, blockChecks}
 use Rattle.evc_def.specs.declared.EvcBlock.{EvcBlock}
 use Rattle.evc_clip.specs.Clip.{clippedPlace}
-use Rattle.evc_interp.proofs.Windows as windows
+use Rattle.evc_interp.proofs.Windows.{accepts, predicted-small}
 use Rattle.evc_mc.specs.Block.{RefPicList, Component, typeOf, planeOf, offsetOf, widthOf, heightOf, withSamples, listSample, firstSample, sameMotion, isBi, average, listShort, listExceeds, predLen}
-use Rattle.evc_mc.specs.Pick.{either, withList, blockSample, BlockSmall}
-use Rattle.evc_mc.proofs.Small.{predicted-small}
+use Rattle.evc_mc.specs.Steps.{either, withList, blockSample, BlockSmall}
 use Rattle.evc_mc.proofs.Checks.{Sides, sides, plane-accepted, list-examined}
 use Rattle.evc_mc.proofs.Samples.{component-room, component-end, samples-at, samples-ext, samples-again}
 
@@ -50,7 +49,7 @@ module _ (b : EvcBlock) (l : RefPicList) where
   list-small p e long s f u c y x ly lx =
       let g = list-examined b l _ s f refl u c in
       let room : heightOf b c * widthOf b c ≤ length p = omega (arith, component-room b (sides b e) c, component-end c) in
-      predicted-small (typeOf c) _ _ (l .list .mv) _ (widthOf b c) (heightOf b c) (planeOf c l) p (windows.accepts _ _ _ _ _ _ _ _ (plane-accepted b (typeOf c) _ (planeOf c l) p e g room)) y x ly lx
+      predicted-small (typeOf c) _ _ (l .list .mv) _ (widthOf b c) (heightOf b c) (planeOf c l) p (accepts _ _ _ _ _ _ _ _ (plane-accepted b (typeOf c) _ (planeOf c l) p e g room)) y x ly lx
 
 -- ---- both
 

@@ -14,7 +14,7 @@ ghost use Rattle.evc_plane.specs.Planes.{sideOf};
 ghost use Rattle.evc_clip.specs.Clip.{clippedPlace};
 ghost use Rattle.evc_interp.specs.Prediction.{predicted, mcPlaneCode};
 ghost use Rattle.evc_mc.specs.Block.{RefPicList, refPicList, Component, withSamples, listSample, firstSample, sameMotion, isBi, average, predLen, listShort, pocExceeds, listExceeds, mc2Code, mc2First, mc2Second};
-ghost use Rattle.evc_mc.specs.Pick.{either, Examined, ListExamined, withList, blockSample, RowSmall, BlockSmall};
+ghost use Rattle.evc_mc.specs.Steps.{either, Examined, ListExamined, withList, blockSample, RowSmall, BlockSmall};
 use evc_def::EvcBlock;
 use evc_def::EvcMv;
 use evc_def::MAX_POC;

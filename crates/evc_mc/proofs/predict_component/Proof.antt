@@ -16,8 +16,8 @@ use Rattle.evc_def.specs.Codes.{firstOf, blockChecks}
 use Rattle.evc_plane.specs.Planes.{sideOf}
 use Rattle.evc_plane.specs.declared.PlaneType.{PlaneType}
 use Rattle.evc_interp.specs.Prediction.{mcPlaneCode}
-use Rattle.evc_mc.specs.Pick.{either, Examined}
-use Rattle.evc_mc.proofs.Lists.{withBlock-part}
+use Rattle.evc_mc.specs.Steps.{either, Examined}
+use Rattle.evc_int.proofs.Lists.{withBlock-part}
 use Rattle.evc_mc.proofs.Checks.{plane-accepted}
 use Rattle.evc_mc.proofs.predict_component.Statement.{statement}
 use Rattle.evc_mc.proofs.predict_component.Tie as tie

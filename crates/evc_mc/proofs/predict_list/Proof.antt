@@ -14,7 +14,7 @@ use Rattle.evc_plane.specs.declared.PlaneType.the-variants.{UV}
 use Rattle.evc_clip.specs.Clip.{clippedPlace}
 use Rattle.evc_interp.specs.Prediction.{predicted}
 use Rattle.evc_mc.specs.Block.{RefPicList, refPicList, Component, luma, cb, cr, typeOf, planeOf, offsetOf, widthOf, heightOf, withComponent, withSamples, listSample}
-use Rattle.evc_mc.specs.Pick.{either, withList}
+use Rattle.evc_mc.specs.Steps.{either, withList}
 use Rattle.evc_mc.proofs.Checks.{sides}
 use Rattle.evc_mc.proofs.Samples.{component-room}
 use Rattle.evc_mc.proofs.predict_list.Statement.{statement}
