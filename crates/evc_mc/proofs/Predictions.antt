@@ -2,15 +2,14 @@
 use mathlib.Core.Bool.{Bool, true, false, not, cond, _&&_, _||_}
 use mathlib.Core.List.{List}
 use mathlib.Core.Path.{_≡_, refl, sym, ap, ap₂, subst, _∙_}
-use Prim.Native.Nat.{ℕ, _+_, _*_, _<_, _≤_}
+use Prim.Native.Nat.{ℕ, _*_, _<_, _≤_}
 use native.Mathlib.Omega.{arith}
 use lib.Dec.{T}
 use lib.ListN.{length}
 use Rattle.evc_def.specs.Codes.{firstOf, blockChecks}
 use Rattle.evc_def.specs.declared.EvcBlock.{EvcBlock}
-use Rattle.evc_clip.specs.Clip.{clippedPlace}
 use Rattle.evc_interp.proofs.Windows.{accepts, predicted-small}
-use Rattle.evc_mc.specs.Block.{RefPicList, Component, typeOf, planeOf, offsetOf, widthOf, heightOf, withSamples, listSample, firstSample, sameMotion, isBi, average, listShort, listExceeds, predLen}
+use Rattle.evc_mc.specs.Block.{RefPicList, Component, typeOf, planeOf, widthOf, heightOf, withSamples, listSample, firstSample, sameMotion, isBi, average, listShort, listExceeds, predLen}
 use Rattle.evc_mc.specs.Steps.{either, withList, blockSample, BlockSmall}
 use Rattle.evc_mc.proofs.Checks.{Sides, sides, plane-accepted, list-examined}
 use Rattle.evc_mc.proofs.Samples.{component-room, component-end, samples-at, samples-ext, samples-again}

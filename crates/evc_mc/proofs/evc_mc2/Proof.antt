@@ -1,5 +1,5 @@
 -- `evc_mc::evc_mc2` meets its contract: refused and both blocks untouched, or predicted. Assumes nothing.
-use mathlib.Core.Bool.{Bool, cond, _&&_}
+use mathlib.Core.Bool.{cond}
 use mathlib.Core.List.{List}
 use mathlib.Core.Path.{_≡_, refl, sym, _∙_}
 use Prim.Native.Nat.{ℕ}
