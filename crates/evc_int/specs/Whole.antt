@@ -1,6 +1,7 @@
 -- Whole numbers beside the kit's ℤ: a negative numeral, the two parts of a number, its low bits, and clipping to a range.
-use mathlib.Core.Bool.{cond}
+use mathlib.Core.Bool.{Bool, false, cond}
 use Prim.Native.Nat.{ℕ, suc, _-_, _%_}
+use lib.Dec.{eqb}
 use lib.IntN.{ℤ, pos, negsuc, negℤ}
 use lib.Signed.{ltZ}
 
@@ -26,6 +27,13 @@ infix 70 _modulo_
 abbrev pub _modulo_ : ℤ → ℕ → ℕ
 pos n modulo m = n % m
 negsuc n modulo m = m - suc (n % m)
+
+-- whether two numbers are equal
+abbrev pub eqZ : ℤ → ℤ → Bool
+eqZ (pos a) (pos b) = eqb a b
+eqZ (pos a) (negsuc b) = false
+eqZ (negsuc a) (pos b) = false
+eqZ (negsuc a) (negsuc b) = eqb a b
 
 -- z clipped to lo .. hi: EVC_CLIP3 of src/util.rs; document 01 says 'held to'
 unfoldable pub clip3 : ℤ → ℤ → ℤ → ℤ

@@ -324,7 +324,7 @@ fn is_side(t: PlaneType, n: u32) -> bool
 }
 
 // On every path the window of both directions is examined.
-fn window_exceeds(
+pub fn window_exceeds(
     t: PlaneType,
     pic_w: u32,
     pic_h: u32,
@@ -375,7 +375,7 @@ fn mc_plane_code(
     0
 }
 
-fn predict(
+pub fn predict(
     t: PlaneType,
     pic_w: u32,
     pic_h: u32,

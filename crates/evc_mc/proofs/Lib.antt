@@ -1,0 +1,4 @@
+pub mod Checks
+pub mod Motion
+pub mod Samples
+pub mod Predictions
