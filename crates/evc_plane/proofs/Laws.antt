@@ -223,6 +223,17 @@ module _ (k : PlaneType) (W H : ℕ) (s : List ℕ) (done : padCode k W H s ≡ 
       let n : sampleAt k W s i j ≤ 1023 = rw (sym e) (exceeds-none s (firstSample k W) (strideOf k W) (sideOf k W) (sideOf k H) (a .2) j i (omega arith) (omega arith)) in
       omega (arith, padded-stored k W H (a .0) s (a .1) x y lx ly, n)
 
+  -- and so is every sample of the padded reference picture
+  pub reference-small : (i j : ℤ) → referenceOf k W H s i j ≤ 1023
+  unfolding configOf reference
+  reference-small i j =
+      let a = accepts in
+      let z = sizes k W H (a .0) in
+      let x = min (i ⁺) (sideOf k W - 1) in
+      let y = min (j ⁺) (sideOf k H - 1) in
+      let e : padOf k * strideOf k W + originOf k + y * strideOf k W + x ≡ (padOf k + y) * strideOf k W + (originOf k + x) = omega arith in
+      rw (sym e) (exceeds-none s (firstSample k W) (strideOf k W) (sideOf k W) (sideOf k H) (a .2) y x (omega arith) (omega arith))
+
   again : padCode k W H (padded k W H s) ≡ 0
   unfolding padCode configOf
   again =
