@@ -109,6 +109,13 @@ module _ {X : Type 0} where
         let m = suc-mul h stride in
         withRow-out (withBlock l at stride n h f) (at + h * stride) n (f h) i (inr (omega arith)) ∙ withBlock-past l at stride n h f i w (omega arith)
 
+    -- nor before them
+    pub withBlock-before : (l : List X) (at stride n h : ℕ) (f : ℕ → ℕ → X) (i : ℕ) → i < at → getD (withBlock l at stride n h f) i e ≡ getD l i e
+    unfolding withBlock
+    withBlock-before l at stride n zero f i b = refl
+    withBlock-before l at stride n (suc h) f i b =
+        withRow-out (withBlock l at stride n h f) (at + h * stride) n (f h) i (inl (omega arith)) ∙ withBlock-before l at stride n h f i b
+
   -- ---- what holds of every element, as a bound
 
   module _ (P : X → Type 0) (e : X) where

@@ -1,2 +1,4 @@
 pub mod Phases
 pub mod Paths
+pub mod Calls
+pub mod Theorems

@@ -1,16 +1,16 @@
 -- The four paths over a padded plane are the general filter over the padded reference picture: what a path reads through its clamped window, and that a direction
 -- which the path does not filter has phase 0 at the clipped place. Assumes nothing.
-use mathlib.Core.Bool.{Bool, true, false, not, cond}
+use mathlib.Core.Bool.{Bool, true, false, not}
 use mathlib.Core.List.{List}
 use mathlib.Core.Path.{_≡_, refl, sym, ap, ap₂, subst, _∙_}
-use Prim.Native.Nat.{ℕ, zero, suc, _+_, _-_, _*_, _/_, _≤_, _<_}
+use Prim.Native.Nat.{ℕ, _+_, _-_, _*_, _/_, _≤_, _<_}
 use native.Mathlib.Omega.{arith}
 use native.Mathlib.Nat.{add-mul}
 use lib.Dec.{T, eqb, eqb→eq, lit<}
-use lib.IntN.{ℤ, pos, _+ℤ_, _-ℤ_, _*ℤ_}
+use lib.IntN.{ℤ, pos, _+ℤ_, _*ℤ_}
 use lib.ListN.{length, getD}
 use lib.Signed.{shrZ}
-use Rattle.evc_int.specs.Whole.{−_, _modulo_, clip3}
+use Rattle.evc_int.specs.Whole.{−_, _modulo_}
 use Rattle.evc_int.proofs.Clipping.{clip3-one}
 use Rattle.evc_int.proofs.Division.{split, split-only}
 use Rattle.evc_int.proofs.Expressions.{ !, _⊕_, _⊖_, _⊗_, neg, solve, fact}
@@ -24,7 +24,7 @@ use Rattle.evc_plane.specs.Planes.{sideOf, padOf, strideOf, referenceOf}
 use Rattle.evc_plane.specs.declared.PlaneType.{PlaneType}
 use Rattle.evc_plane.specs.declared.PlaneType.the-variants.{Y, UV}
 use Rattle.evc_plane.proofs.Laws.{window-reads-reference, reference-small, accepts, after}
-use Rattle.evc_filter.specs.Filter.{taps, phases, lead, reach, tapSum, along, oneDirection, firstStage, secondStage, interpolated, rowStage, interpolatedTwice}
+use Rattle.evc_filter.specs.Filter.{taps, lead, reach, tapSum, along, oneDirection, firstStage, secondStage, interpolated, rowStage, interpolatedTwice}
 use Rattle.evc_filter.proofs.Sums.{shape}
 use Rattle.evc_interp.specs.Prediction.{phaseOf, placeOf, isFiltered, startOf, windowOf, sampleBy, predicted}
 use Rattle.evc_interp.proofs.Windows.{phase-small}
@@ -75,10 +75,10 @@ module _ (k : PlaneType) (W x w : ℕ) (mv : ℤ) (ok : Allowed W x w) where
 
 -- ---- what a path reads: the plane is the one that padding made of q, its window starts at the place gmv
 
--- a block's column or row, with what the filter reaches further on, lies in the border
-pub within-pad : (k : PlaneType) (n x t : ℕ) → n ≤ 64 → x < sideOf k n → t ≤ reach k → x + t < padOf k
-within-pad Y n x t a b c = omega arith
-within-pad UV n x t a b c = omega arith
+-- a block's columns or rows, with what the filter reaches further on, are fewer than the border's
+pub within-pad : (k : PlaneType) (n x : ℕ) → n ≤ 64 → x < sideOf k n + reach k → x < padOf k
+within-pad Y n x a b = omega arith
+within-pad UV n x a b = omega arith
 
 -- a filtered direction starts `lead` before the place; the other at the place
 start-filtered : (k : PlaneType) (z : ℤ) (c t : ℕ) → placeOf k z +ℤ pos c +ℤ − lead k +ℤ pos t ≡ startOf k true z +ℤ pos (c + t)
@@ -160,5 +160,5 @@ module _ (k : PlaneType) (b : EvcBlock) (across : Allowed (b .«pic_w») (b .x) 
       let W = b .«pic_w» in
       let H = b .«pic_h» in
       ap (λ (s : List ℕ). predicted k W H mv (clippedPlace b mv) s y x) (made ∙ after k W H q done)
-      ∙ by-path k W H q done (clippedPlace b mv) x y (λ t. within-pad k (b .w) x t (across .side-high) lx) (λ t. within-pad k (b .h) y t (down .side-high) ly)
+      ∙ by-path k W H q done (clippedPlace b mv) x y (λ t l. within-pad k (b .w) (x + t) (across .side-high) (omega arith)) (λ t l. within-pad k (b .h) (y + t) (down .side-high) (omega arith))
       (isFiltered k (mv .x)) (isFiltered k (mv .y)) (unfiltered-phase k W (b .x) (b .w) (mv .x) across) (unfiltered-phase k H (b .y) (b .h) (mv .y) down)

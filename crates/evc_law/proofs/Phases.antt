@@ -1,11 +1,11 @@
 -- The general filter at phase 0: the taps of phase 0 pick one sample, so that at phase 0 in a direction the general filter is one direction alone, and at phase
 -- 0 in both it is the sample. For luma and chroma at once. Assumes nothing.
 use mathlib.Core.List.{List, [], _∷_}
-use mathlib.Core.Path.{_≡_, refl, sym, ap, ap₂, _∙_, fun-ext}
-use Prim.Native.Nat.{ℕ, zero, suc, _+_, _<_, _≤_, suc-le-suc, zero-le}
+use mathlib.Core.Path.{_≡_, refl, ap, ap₂, _∙_, fun-ext}
+use Prim.Native.Nat.{ℕ, suc, _+_, _<_, _≤_, suc-le-suc, zero-le}
 use native.Mathlib.Omega.{arith}
 use lib.Dec.{lit<}
-use lib.IntN.{ℤ, pos, negℤ, _+ℤ_, _*ℤ_}
+use lib.IntN.{ℤ, pos, _+ℤ_, _*ℤ_}
 use lib.ListN.{length}
 use lib.Signed.{shrZ}
 use Rattle.evc_int.specs.Whole.{−_}
@@ -13,7 +13,7 @@ use Rattle.evc_int.proofs.Expressions.{Ex, !, _⊕_, _⊗_, neg, solve}
 use Rattle.evc_int.proofs.Division.{solve-shr, fact-shr}
 use Rattle.evc_plane.specs.declared.PlaneType.{PlaneType}
 use Rattle.evc_plane.specs.declared.PlaneType.the-variants.{Y, UV}
-use Rattle.evc_filter.specs.Filter.{taps, lead, tapSum, clipSample, oneDirection, firstStage}
+use Rattle.evc_filter.specs.Filter.{taps, lead, tapSum, clipSample, oneDirection}
 use Rattle.evc_interp.specs.Prediction.{phaseOf, placeOf}
 use Rattle.evc_law.specs.General.{tapped, general₁, general}
 
