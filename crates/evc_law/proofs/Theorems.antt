@@ -1,4 +1,4 @@
--- Demand 3's theorems. Assumes nothing.
+-- Demand 3's theorems: each predicted sample of an accepted call is the general filter's, and the exchange of the lists. Assumes nothing.
 use mathlib.Core.Bool.{Bool, true, false, not, cond, _&&_, _||_}
 use mathlib.Core.List.{List}
 use mathlib.Core.Path.{_≡_, refl, sym, ap, ap₂, subst, _∙_, fun-ext}
