@@ -241,3 +241,32 @@ module _ (k : PlaneType) (W H : ℕ) (s : List ℕ) (done : padCode k W H s ≡ 
   pad-twice =
       rw (after k W H s done)
       (again, after k W H (padded k W H s) again ∙ padded-twice k W H (accepts .0) s (accepts .1))
+
+-- ---- which pictures are accepted
+
+module _ (k : PlaneType) (W H : ℕ) (s : List ℕ) (done : padCode k W H s ≡ 0) where
+  pub picture-small : (i j : ℕ) → i < sideOf k W → j < sideOf k H → sampleAt k W s i j ≤ 1023
+  picture-small i j li lj =
+      let S = strideOf k W in
+      let e : padOf k * S + originOf k + j * S + i ≡ (padOf k + j) * S + (originOf k + i) = omega arith in
+      rw (sym e) (exceeds-none s (firstSample k W) S (sideOf k W) (sideOf k H) (accepts k W H s done .2) j i lj li)
+
+  module _ (t : List ℕ) (long : planeLen k W H ≤ length t) where
+    small-accepted : ((i j : ℕ) → i < sideOf k W → j < sideOf k H → sampleAt k W t i j ≤ 1023) → padCode k W H t ≡ 0
+    unfolding padCode
+    small-accepted h =
+        let S = strideOf k W in
+        passed _ _ _ (accepts k W H s done .0)
+        ∙ passed _ _ _ (le-ltb (length t) (planeLen k W H) long)
+        ∙ passed _ _ _
+        (none-exceeds t (firstSample k W) S (sideOf k W) (sideOf k H) (λ y x ly lx.
+        let e : (padOf k + y) * S + (originOf k + x) ≡ padOf k * S + originOf k + y * S + x = omega arith in
+        rw (sym e) (h x y lx ly)))
+        ∙ none
+
+    -- the mirror of an accepted picture, in a buffer that is long enough
+    pub mirrored-accepted : (LeftRight k W H s t → padCode k W H t ≡ 0) × (TopBottom k W H s t → padCode k W H t ≡ 0)
+    mirrored-accepted = (
+      (λ m. small-accepted (λ i j li lj. rw (m i (sideOf k W - 1 - i) j (omega arith) lj) (picture-small (sideOf k W - 1 - i) j (omega arith) lj))),
+      (λ m. small-accepted (λ i j li lj. rw (m i j (sideOf k H - 1 - j) li (omega arith)) (picture-small i (sideOf k H - 1 - j) li (omega arith)))),
+    )
