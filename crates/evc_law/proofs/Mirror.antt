@@ -1,0 +1,81 @@
+-- A block's samples by the general filter, mirrored left to right and top to bottom: those of one list, then those of a call. Assumes nothing.
+use mathlib.Core.Bool.{Bool, true, false, cond, _&&_, _||_}
+use mathlib.Core.Path.{_≡_, refl, sym, ap, ap₂, subst, _∙_}
+use Prim.Native.Nat.{ℕ, _+_, _*_, _-_, _%_, _≤_, _<_}
+use native.Mathlib.Omega.{arith}
+use lib.Dec.{T}
+use lib.IntN.{ℤ, pos, negℤ, _+ℤ_, _-ℤ_, _*ℤ_}
+use Rattle.evc_int.specs.Whole.{_⁺, _⁻}
+use Rattle.evc_int.proofs.Expressions.{ !, _⊕_, _⊖_, _⊗_, solve}
+use Rattle.evc_def.specs.Blocks.{Allowed}
+use Rattle.evc_def.specs.declared.EvcBlock.{EvcBlock}
+use Rattle.evc_def.specs.declared.EvcMv.{EvcMv}
+use Rattle.evc_plane.specs.declared.PlaneType.{PlaneType}
+use Rattle.evc_plane.specs.declared.PlaneType.the-variants.{Y, UV}
+use Rattle.evc_plane.specs.Planes.{sideOf, sampleAt, referenceOf}
+use Rattle.evc_plane.proofs.Laws.{reference-left-right, reference-top-bottom}
+use Rattle.evc_filter.specs.Filter.{phases}
+use Rattle.evc_clip.specs.Clip.{clipComponent, clipMv, clippedPlace}
+use Rattle.evc_clip.proofs.Laws.{placeOf, clipped-mirror}
+use Rattle.evc_mc.specs.declared.EvcList.{EvcList}
+use Rattle.evc_mc.specs.Block.{Component, typeOf, widthOf, heightOf, average}
+use Rattle.evc_law.specs.General.{general}
+use Rattle.evc_law.specs.Demand3.{Picture, Made, Equal, Call, Premises, generalList, generalSample, PictureLeftRight, PictureTopBottom, blockLeftRight, blockTopBottom, mvLeftRight, mvTopBottom, ListMirrored, Mirrored}
+use Rattle.evc_law.proofs.Taps.{general-left-right, general-top-bottom}
+
+-- ---- one direction of a block in a plane
+
+-- luma and chroma have the picture's sides in common, in quarter samples
+side-phases : (k : PlaneType) (n : ℕ) → n % 4 ≡ 0 → phases k * sideOf k n ≡ 4 * n
+side-phases Y n e = refl
+side-phases UV n e = omega arith
+
+side-inside : (k : PlaneType) (W x w : ℕ) → Allowed W x w → (1 ≤ sideOf k w) × (sideOf k w ≤ sideOf k W)
+side-inside Y W x w a = (omega arith, omega arith)
+side-inside UV W x w a = (omega arith, omega arith)
+
+-- the samples by which a block is smaller than its plane
+abbrev free : PlaneType → ℕ → ℕ → ℤ
+free k W w = pos (sideOf k W) -ℤ pos (sideOf k w)
+
+module _ (k : PlaneType) (W x w : ℕ) (a : Allowed W x w) where
+  some-side : 1 ≤ sideOf k W
+  some-side = let s = side-inside k W x w a in omega arith
+
+  -- the clipped places add up to these
+  places-meet : (mv : ℤ) → placeOf x (clipComponent W x w mv) +ℤ placeOf (W - x - w) (clipComponent W (W - x - w) w (negℤ mv)) ≡ pos (phases k) *ℤ free k W w
+  places-meet mv =
+      clipped-mirror W x (W - x - w) w mv (omega arith)
+      ∙ solve (! (pos 4) ⊗ (! (pos W) ⊖ ! (pos w))) (! (pos (phases k)) ⊗ (! (pos (sideOf k W)) ⊖ ! (pos (sideOf k w)))) (omega (arith, side-phases k W (a .size-fours), side-phases k w (a .side-fours)))
+
+  samples-meet : (c c′ : ℕ) → c + c′ + 1 ≡ sideOf k w → free k W w +ℤ pos (c′ + c + 1) ≡ pos (sideOf k W)
+  samples-meet c c′ e = solve (! (pos (sideOf k W)) ⊖ ! (pos (sideOf k w)) ⊕ ! (pos (c′ + c + 1))) (! (pos (sideOf k W))) (omega arith)
+
+-- ---- the samples of one list
+
+module _ (b : EvcBlock) (ax : Allowed (b .«pic_w») (b .x) (b .w)) (ay : Allowed (b .«pic_h») (b .y) (b .h)) where
+  pub list-left-right : (l m : EvcList) (p q : Picture) → m .mv ≡ mvLeftRight (l .mv) → PictureLeftRight b p q → (c : Component) (x x′ y : ℕ) → x + x′ + 1 ≡ widthOf b c
+      → generalList (blockLeftRight b) m q c x y ≡ generalList b l p c x′ y
+  unfolding clippedPlace clipMv
+  list-left-right l m p q e h c x x′ y s =
+      let k = typeOf c in
+      let W = b .«pic_w» in
+      let H = b .«pic_h» in
+      let place = clippedPlace b (l .mv) in
+      ap (λ (mv : EvcMv). let place = clippedPlace (blockLeftRight b) mv in general k (referenceOf k W H (q c)) (place .x) (place .y) x y) e
+      ∙ general-left-right k (referenceOf k W H (p c)) (referenceOf k W H (q c)) (pos (sideOf k W)) (free k W (b .w))
+      (reference-left-right (sampleAt k W (p c)) (sideOf k W) (sideOf k H) (sampleAt k W (q c)) (some-side k W (b .x) (b .w) ax) (some-side k H (b .y) (b .h) ay) (h c))
+      (place .x) _ (place .y) x′ x y (places-meet k W (b .x) (b .w) ax (l .mv .x)) (samples-meet k W (b .x) (b .w) ax x x′ s)
+
+  pub list-top-bottom : (l m : EvcList) (p q : Picture) → m .mv ≡ mvTopBottom (l .mv) → PictureTopBottom b p q → (c : Component) (x y y′ : ℕ) → y + y′ + 1 ≡ heightOf b c
+      → generalList (blockTopBottom b) m q c x y ≡ generalList b l p c x y′
+  unfolding clippedPlace clipMv
+  list-top-bottom l m p q e h c x y y′ s =
+      let k = typeOf c in
+      let W = b .«pic_w» in
+      let H = b .«pic_h» in
+      let place = clippedPlace b (l .mv) in
+      ap (λ (mv : EvcMv). let place = clippedPlace (blockTopBottom b) mv in general k (referenceOf k W H (q c)) (place .x) (place .y) x y) e
+      ∙ general-top-bottom k (referenceOf k W H (p c)) (referenceOf k W H (q c)) (pos (sideOf k H)) (free k H (b .h))
+      (reference-top-bottom (sampleAt k W (p c)) (sideOf k W) (sideOf k H) (sampleAt k W (q c)) (some-side k W (b .x) (b .w) ax) (some-side k H (b .y) (b .h) ay) (h c))
+      (place .x) (place .y) _ x y′ y (places-meet k H (b .y) (b .h) ay (l .mv .y)) (samples-meet k H (b .y) (b .h) ay y y′ s)
