@@ -79,3 +79,52 @@ module _ (b : EvcBlock) (ax : Allowed (b .«pic_w») (b .x) (b .w)) (ay : Allowe
       ∙ general-top-bottom k (referenceOf k W H (p c)) (referenceOf k W H (q c)) (pos (sideOf k H)) (free k H (b .h))
       (reference-top-bottom (sampleAt k W (p c)) (sideOf k W) (sideOf k H) (sampleAt k W (q c)) (some-side k W (b .x) (b .w) ax) (some-side k H (b .y) (b .h) ay) (h c))
       (place .x) (place .y) _ x y′ y (places-meet k H (b .y) (b .h) ay (l .mv .y)) (samples-meet k H (b .y) (b .h) ay y y′ s)
+
+-- ---- equal pictures have equal mirrors
+
+module _ (b : EvcBlock) (p p′ q q′ : Picture) where
+  pub equal-left-right : PictureLeftRight b p q → PictureLeftRight b p′ q′ → Equal b p p′ → Equal (blockLeftRight b) q q′
+  equal-left-right h h′ e c i j li lj =
+      let i′ = sideOf (typeOf c) (b .«pic_w») - 1 - i in
+      h c i i′ j (omega arith) lj ∙ e c i′ j (omega arith) lj ∙ sym (h′ c i i′ j (omega arith) lj)
+
+  pub equal-top-bottom : PictureTopBottom b p q → PictureTopBottom b p′ q′ → Equal b p p′ → Equal (blockTopBottom b) q q′
+  equal-top-bottom h h′ e c i j li lj =
+      let j′ = sideOf (typeOf c) (b .«pic_h») - 1 - j in
+      h c i j j′ li (omega arith) ∙ e c i j′ li (omega arith) ∙ sym (h′ c i j j′ li (omega arith))
+
+-- ---- a mirrored call, for either mirror
+
+-- a list not in use is not read
+chosen : (u v u′ v′ : Bool) (a b a′ b′ : ℕ) → u || v ≡ true → u′ ≡ u → v′ ≡ v → (u ≡ true → a′ ≡ a) → (v ≡ true → b′ ≡ b)
+    → cond (u′ && v′) (average a′ b′) (cond u′ a′ b′) ≡ cond (u && v) (average a b) (cond u a b)
+chosen true true u′ v′ a b a′ b′ s e f g h = rw (e, f) (ap₂ average (g refl) (h refl))
+chosen true false u′ v′ a b a′ b′ s e f g h = rw (e, f) (g refl)
+chosen false true u′ v′ a b a′ b′ s e f g h = rw e (h refl)
+chosen false false u′ v′ a b a′ b′ s e f g h = absurd (subst T (sym s) tt)
+
+module _ (turn : EvcMv → EvcMv) (Turned : Picture → Picture → Type 0) (place : EvcBlock) (k m : Call) (mirror : Mirrored turn Turned place k m) where
+  pub mirrored-sample : (c : Component) (x y x′ y′ : ℕ) → k .l0 .list .used || k .l1 .list .used ≡ true
+      → ((l n : EvcList) (p q : Picture) → n .mv ≡ turn (l .mv) → Turned p q → generalList place n q c x y ≡ generalList (k .block) l p c x′ y′)
+      → generalSample m c x y ≡ generalSample k c x′ y′
+  mirrored-sample c x y x′ y′ used lists =
+      let l0 = mirror .list0 in
+      let l1 = mirror .list1 in
+      chosen (k .l0 .list .used) (k .l1 .list .used) (m .l0 .list .used) (m .l1 .list .used) _ _ _ _ used (l0 .used) (l1 .used)
+      (λ u. ap (λ (b : EvcBlock). generalList b (m .l0 .list) (m .picture0) c x y) (mirror .block) ∙ lists (k .l0 .list) (m .l0 .list) (k .picture0) (m .picture0) (l0 .mv u) (l0 .picture u))
+      (λ u. ap (λ (b : EvcBlock). generalList b (m .l1 .list) (m .picture1) c x y) (mirror .block) ∙ lists (k .l1 .list) (m .l1 .list) (k .picture1) (m .picture1) (l1 .mv u) (l1 .picture u))
+
+  pub mirrored-premises : ((p p′ q q′ : Picture) → Turned p q → Turned p′ q′ → Equal (k .block) p p′ → Equal place q q′) → Premises k → Premises m
+  mirrored-premises equal known =
+      let l0 = mirror .list0 in
+      let l1 = mirror .list1 in
+      let at = sym (mirror .block) in
+      record {
+        made0 = subst (λ (b : EvcBlock). Made b (m .l0) (m .picture0)) at (l0 .made);
+        made1 = subst (λ (b : EvcBlock). Made b (m .l1) (m .picture1)) at (l1 .made);
+        counts = λ u v e.
+          let u′ = sym (l0 .used) ∙ u in
+          let v′ = sym (l1 .used) ∙ v in
+          subst (λ (b : EvcBlock). Equal b (m .picture0) (m .picture1)) at
+          (equal (k .picture0) (k .picture1) (m .picture0) (m .picture1) (l0 .picture u′) (l1 .picture v′) (known .counts u′ v′ (sym (l0 .poc u′) ∙ e ∙ l1 .poc v′)));
+      }
