@@ -1,15 +1,16 @@
 -- A block's samples by the general filter, mirrored left to right and top to bottom: those of one list, then those of a call. Assumes nothing.
 use mathlib.Core.Bool.{Bool, true, false, cond, _&&_, _||_}
 use mathlib.Core.Path.{_≡_, refl, sym, ap, ap₂, subst, _∙_}
-use Prim.Native.Nat.{ℕ, _+_, _*_, _-_, _%_, _≤_, _<_}
+use Prim.Native.Nat.{ℕ, _+_, _*_, _-_, _%_, _≤_}
 use native.Mathlib.Omega.{arith}
 use lib.Dec.{T}
 use lib.IntN.{ℤ, pos, negℤ, _+ℤ_, _-ℤ_, _*ℤ_}
-use Rattle.evc_int.specs.Whole.{_⁺, _⁻}
 use Rattle.evc_int.proofs.Expressions.{ !, _⊕_, _⊖_, _⊗_, solve}
 use Rattle.evc_def.specs.Blocks.{Allowed}
+use Rattle.evc_def.specs.Codes.{firstOf, blockChecks}
 use Rattle.evc_def.specs.declared.EvcBlock.{EvcBlock}
 use Rattle.evc_def.specs.declared.EvcMv.{EvcMv}
+use Rattle.evc_def.proofs.Blocks.{allowed-block, allowed-mirror, accepted-at}
 use Rattle.evc_plane.specs.declared.PlaneType.{PlaneType}
 use Rattle.evc_plane.specs.declared.PlaneType.the-variants.{Y, UV}
 use Rattle.evc_plane.specs.Planes.{sideOf, sampleAt, referenceOf}
@@ -20,7 +21,7 @@ use Rattle.evc_clip.proofs.Laws.{placeOf, clipped-mirror}
 use Rattle.evc_mc.specs.declared.EvcList.{EvcList}
 use Rattle.evc_mc.specs.Block.{Component, typeOf, widthOf, heightOf, average}
 use Rattle.evc_law.specs.General.{general}
-use Rattle.evc_law.specs.Demand3.{Picture, Made, Equal, Call, Premises, generalList, generalSample, PictureLeftRight, PictureTopBottom, blockLeftRight, blockTopBottom, mvLeftRight, mvTopBottom, ListMirrored, Mirrored}
+use Rattle.evc_law.specs.Demand3.{Picture, Made, Equal, Call, Premises, generalList, generalSample, PictureLeftRight, PictureTopBottom, blockLeftRight, blockTopBottom, mvLeftRight, mvTopBottom, Mirrored}
 use Rattle.evc_law.proofs.Taps.{general-left-right, general-top-bottom}
 
 -- ---- one direction of a block in a plane
@@ -50,6 +51,19 @@ module _ (k : PlaneType) (W x w : ℕ) (a : Allowed W x w) where
 
   samples-meet : (c c′ : ℕ) → c + c′ + 1 ≡ sideOf k w → free k W w +ℤ pos (c′ + c + 1) ≡ pos (sideOf k W)
   samples-meet c c′ e = solve (! (pos (sideOf k W)) ⊖ ! (pos (sideOf k w)) ⊕ ! (pos (c′ + c + 1))) (! (pos (sideOf k W))) (omega arith)
+
+-- ---- the mirrored block is accepted
+
+module _ (b : EvcBlock) (ok : firstOf (blockChecks b) ≡ 0) where
+  pub block-left-right : firstOf (blockChecks (blockLeftRight b)) ≡ 0
+  block-left-right =
+      let a = allowed-block b ok in
+      accepted-at b (b .«pic_w» - b .x - b .w) (b .y) ok (allowed-mirror (b .«pic_w») (b .x) (b .w) (a .0)) (a .1)
+
+  pub block-top-bottom : firstOf (blockChecks (blockTopBottom b)) ≡ 0
+  block-top-bottom =
+      let a = allowed-block b ok in
+      accepted-at b (b .x) (b .«pic_h» - b .y - b .h) ok (a .0) (allowed-mirror (b .«pic_h») (b .y) (b .h) (a .1))
 
 -- ---- the samples of one list
 
@@ -123,8 +137,8 @@ module _ (turn : EvcMv → EvcMv) (Turned : Picture → Picture → Type 0) (pla
         made0 = subst (λ (b : EvcBlock). Made b (m .l0) (m .picture0)) at (l0 .made);
         made1 = subst (λ (b : EvcBlock). Made b (m .l1) (m .picture1)) at (l1 .made);
         counts = λ u v e.
-          let u′ = sym (l0 .used) ∙ u in
-          let v′ = sym (l1 .used) ∙ v in
-          subst (λ (b : EvcBlock). Equal b (m .picture0) (m .picture1)) at
-          (equal (k .picture0) (k .picture1) (m .picture0) (m .picture1) (l0 .picture u′) (l1 .picture v′) (known .counts u′ v′ (sym (l0 .poc u′) ∙ e ∙ l1 .poc v′)));
+            let u′ = sym (l0 .used) ∙ u in
+            let v′ = sym (l1 .used) ∙ v in
+            subst (λ (b : EvcBlock). Equal b (m .picture0) (m .picture1)) at
+            (equal (k .picture0) (k .picture1) (m .picture0) (m .picture1) (l0 .picture u′) (l1 .picture v′) (known .counts u′ v′ (sym (l0 .poc u′) ∙ e ∙ l1 .poc v′)));
       }

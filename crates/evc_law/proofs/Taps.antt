@@ -6,8 +6,8 @@ use Prim.Native.Nat.{ℕ, zero, suc, _+_, _*_, _-_, _<_}
 use native.Mathlib.Omega.{arith}
 use lib.IntN.{ℤ, pos, _+ℤ_, _-ℤ_, _*ℤ_}
 use lib.ListN.{length, length-reverse}
-use Rattle.evc_int.specs.Whole.{−_, _⁺, _⁻}
-use Rattle.evc_int.proofs.Expressions.{Ex, !, _⊕_, _⊖_, _⊗_, neg, solve, fact}
+use Rattle.evc_int.specs.Whole.{−_}
+use Rattle.evc_int.proofs.Expressions.{ !, _⊕_, _⊖_, _⊗_, neg, solve, fact}
 use Rattle.evc_int.proofs.Division.{split, split-only, modulo-lt}
 use Rattle.evc_plane.specs.declared.PlaneType.{PlaneType}
 use Rattle.evc_plane.specs.declared.PlaneType.the-variants.{Y, UV}
