@@ -5,13 +5,13 @@ use mathlib.Core.Path.{_≡_, refl, sym, ap, subst, _∙_}
 use Prim.Native.Nat.{ℕ, _+_, _-_, _*_, _/_, _%_, _≤_, _<_}
 use native.Mathlib.Omega.{arith}
 use lib.Dec.{lit<}
-use lib.IntN.{ℤ, pos, _+ℤ_, _-ℤ_, _*ℤ_}
+use lib.IntN.{ℤ, pos, negℤ, _+ℤ_, _-ℤ_, _*ℤ_}
 use lib.Signed.{ltZ, _≤ℤ_}
 use mir.Syntax.{w16}
 use mir.Val.{SFits}
 use Rattle.evc_int.specs.Whole.{−_, _⁺, _⁻, _modulo_, clip3}
 use Rattle.evc_int.proofs.Whole.{Tested, under, not-under, of}
-use Rattle.evc_int.proofs.Expressions.{Ex, !, _⊕_, _⊖_, _⊗_, value, more, less, solve, fact, solve≤, tested-ex}
+use Rattle.evc_int.proofs.Expressions.{Ex, !, _⊕_, _⊖_, _⊗_, neg, value, more, less, solve, fact, solve≤, tested-ex}
 use Rattle.evc_int.proofs.Division.{split-only}
 use Rattle.evc_int.proofs.Machine.{fit, rng}
 use Rattle.evc_def.specs.Blocks.{Allowed}
@@ -79,6 +79,32 @@ module _ (W x w : ℕ) (mv : ℤ) (h : w ≤ W) where
       go r false false (high a p) (not-under b) (not-under c) = absurd (omega arith)
       go r false true (kept a b p) (not-under d) (under c) = absurd (omega arith)
       go r false false (kept a b p) (not-under d) (not-under c) = ap (λ (z : ℤ). placeOf x z) p
+
+-- ---- the mirror: the vector negated, the block as far from the picture's other end (x + x′ + w ≡ W). The two clipped places add up to 4 (W - w)
+
+module _ (W x x′ w : ℕ) (mv : ℤ) (h : x + x′ + w ≡ W) where
+  pub clipped-mirror : placeOf x (clipComponent W x w mv) +ℤ placeOf x′ (clipComponent W x′ w (negℤ mv)) ≡ pos 4 *ℤ (pos W -ℤ pos w)
+  clipped-mirror = go _ _ (clips W x w mv) (clips W x′ w (negℤ mv))
+    where
+      sum : ℤ → ℤ → Ex
+      sum r r′ = ! (pos 4) ⊗ ! (pos x) ⊕ ! r ⊕ (! (pos 4) ⊗ ! (pos x′) ⊕ ! r′)
+
+      free : Ex
+      free = ! (pos 4) ⊗ (! (pos W) ⊖ ! (pos w))
+
+      turned : negℤ mv ⁺ + mv ⁺ ≡ mv ⁻ + negℤ mv ⁻
+      turned = fact (! (negℤ mv)) (neg (! mv)) refl
+
+      go : (r r′ : ℤ) → Clips W x w mv r → Clips W x′ w (negℤ mv) r′ → value (sum r r′) ≡ value free
+      go r r′ (low a p) (low a′ p′) = absurd (omega (arith, turned))
+      go r r′ (low a p) (high a′ p′) = solve (sum r r′) free (omega arith)
+      go r r′ (low a p) (kept a′ b′ p′) = absurd (omega (arith, turned))
+      go r r′ (high a p) (low a′ p′) = solve (sum r r′) free (omega arith)
+      go r r′ (high a p) (high a′ p′) = absurd (omega (arith, turned))
+      go r r′ (high a p) (kept a′ b′ p′) = absurd (omega (arith, turned))
+      go r r′ (kept a b p) (low a′ p′) = absurd (omega (arith, turned))
+      go r r′ (kept a b p) (high a′ p′) = absurd (omega (arith, turned))
+      go r r′ (kept a b p) (kept a′ b′ p′) = solve (sum r r′) free (omega (arith, fact (! r) (! mv) p, fact (! r′) (neg (! mv)) p′))
 
 -- ---- for a block that the checks allow
 

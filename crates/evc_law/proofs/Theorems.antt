@@ -1,4 +1,4 @@
--- Demand 3's theorems: each predicted sample of an accepted call is the general filter's, and the exchange of the lists. Assumes nothing.
+-- Demand 3's theorems: each predicted sample of an accepted call is the general filter's; the mirrors; the exchange of the lists. Assumes nothing.
 use mathlib.Core.Bool.{Bool, true, false, not, cond, _&&_, _||_}
 use mathlib.Core.List.{List}
 use mathlib.Core.Path.{_≡_, refl, sym, ap, ap₂, subst, _∙_, fun-ext}
@@ -10,19 +10,20 @@ use lib.ListN.{getD}
 use borrow.Author.Tests.{eqb-true}
 use Rattle.evc_int.specs.Whole.{eqZ}
 use Rattle.evc_int.proofs.Whole.{eqZ-true}
-use Rattle.evc_def.specs.Blocks.{Allowed}
+use Rattle.evc_def.specs.Blocks.{Allowed, maxPoc}
+use Rattle.evc_def.specs.Codes.{firstOf, blockChecks}
 use Rattle.evc_def.specs.declared.EvcBlock.{EvcBlock}
+use Rattle.evc_def.specs.declared.EvcMv.{EvcMv}
 use Rattle.evc_def.proofs.Blocks.{allowed-block}
 use Rattle.evc_clip.specs.Clip.{clipMv, clippedPlace}
 use Rattle.evc_plane.specs.Planes.{sideOf, sampleAt, referenceOf}
-use Rattle.evc_plane.specs.declared.PlaneType.{PlaneType}
-use Rattle.evc_plane.specs.declared.PlaneType.the-variants.{Y, UV}
 use Rattle.evc_plane.proofs.Laws.{reference-agree}
 use Rattle.evc_mc.specs.declared.EvcList.{EvcList}
 use Rattle.evc_mc.specs.Block.{RefPicList, Component, typeOf, offsetOf, widthOf, heightOf, withSamples, listSample, sameMotion, isBi, average, firstSample, mc2Code, mc2First}
 use Rattle.evc_law.specs.General.{general}
-use Rattle.evc_law.specs.Demand3.{Picture, Equal, Call, Premises, Accepted, sample, generalList, GeneralFilter, exchanged, Exchange}
-use Rattle.evc_law.proofs.Calls.{list-general, accepts-call, accepted-call, block-holds}
+use Rattle.evc_law.specs.Demand3.{Picture, Equal, Call, Premises, Accepted, sample, generalList, GeneralFilter, PictureLeftRight, PictureTopBottom, blockLeftRight, blockTopBottom, mvLeftRight, mvTopBottom, Mirrored, LeftRight, TopBottom, exchanged, Exchange, Demand3}
+use Rattle.evc_law.proofs.Calls.{list-general, Asked, accepts-call, accepted-call, block-holds}
+use Rattle.evc_law.proofs.Mirror.{some-side, block-left-right, block-top-bottom, list-left-right, list-top-bottom, equal-left-right, equal-top-bottom, mirrored-sample, mirrored-premises}
 
 -- ---- what an accepted call leaves in its first block
 
@@ -55,10 +56,6 @@ same-motion b l m e =
     let f = both-true (eqb (l .poc) (m .poc) && eqZ (clipMv b (l .mv) .x) (clipMv b (m .mv) .x)) (eqZ (clipMv b (l .mv) .y) (clipMv b (m .mv) .y)) e in
     let g = both-true (eqb (l .poc) (m .poc)) (eqZ (clipMv b (l .mv) .x) (clipMv b (m .mv) .x)) (f .0) in
     record { count = eqb-true _ _ (g .0); across = eqZ-true _ _ (g .1); down = eqZ-true _ _ (f .1) }
-
-some-side : (k : PlaneType) (size place side : ℕ) → Allowed size place side → 1 ≤ sideOf k size
-some-side Y size place side ok = omega arith
-some-side UV size place side ok = omega arith
 
 module _ (b : EvcBlock) (across : Allowed (b .«pic_w») (b .x) (b .w)) (down : Allowed (b .«pic_h») (b .y) (b .h)) where
   equal-reference : (p q : Picture) → Equal b p q → (c : Component) → referenceOf (typeOf c) (b .«pic_w») (b .«pic_h») (p c) ≡ referenceOf (typeOf c) (b .«pic_w») (b .«pic_h») (q c)
@@ -104,6 +101,73 @@ general-filter k given done c x y lx ly =
     equal-lists b (o .0) (o .1) (l .list) (m .list) (k .picture0) (k .picture1) s (given .counts u v (s .count)) c x y)
     (a .some)
 
+-- ---- the mirrors
+
+abbrev AskedOf : Call → Type 0
+AskedOf k = Asked (k .block) (k .l0) (k .l1) (k .pred0) (k .pred1)
+
+-- the mirrored call has it too, if its block is accepted
+asked-mirror : (turn : EvcMv → EvcMv) (Turned : Picture → Picture → Type 0) (place : EvcBlock) (k m : Call) → Mirrored turn Turned place k m → firstOf (blockChecks place) ≡ 0 → AskedOf k → AskedOf m
+asked-mirror turn Turned place k m mirror at a =
+    let l0 = mirror .list0 in
+    let l1 = mirror .list1 in
+    record {
+      block = subst (λ (b : EvcBlock). firstOf (blockChecks b) ≡ 0) (sym (mirror .block)) at;
+      some = ap₂ (λ (u v : Bool). u || v) (l0 .used) (l1 .used) ∙ a .some;
+      count0 = λ u. let v = sym (l0 .used) ∙ u in subst (λ (n : ℕ). n ≤ maxPoc) (sym (l0 .poc v)) (a .count0 v);
+      count1 = λ u. let v = sym (l1 .used) ∙ u in subst (λ (n : ℕ). n ≤ maxPoc) (sym (l1 .poc v)) (a .count1 v);
+      long0 = mirror .long0;
+      long1 = mirror .long1;
+    }
+
+asked : (k : Call) → Accepted k → AskedOf k
+asked k done = accepted-call (k .block) (k .l0) (k .l1) (k .pred0) (k .pred1) done
+
+-- either mirror
+module _ (turn : EvcMv → EvcMv) (Turned : Picture → Picture → Type 0) (place : EvcBlock) (k m : Call) (known : Premises k) (done : Accepted k) (mirror : Mirrored turn Turned place k m)
+    (block : firstOf (blockChecks (k .block)) ≡ 0 → firstOf (blockChecks place) ≡ 0)
+    (equal : (p p′ q q′ : Picture) → Turned p q → Turned p′ q′ → Equal (k .block) p p′ → Equal place q q′) where
+  premises : Premises m
+  premises = mirrored-premises turn Turned place k m mirror equal known
+
+  mirror-accepted : Accepted m
+  mirror-accepted =
+      accepts-call (m .block) (m .l0) (m .l1) (m .pred0) (m .pred1) (m .picture0) (m .picture1) (premises .made0) (premises .made1)
+      (asked-mirror turn Turned place k m mirror (block (asked k done .block)) (asked k done))
+
+  mirror-samples : (c : Component) (x y x′ y′ : ℕ) → x < widthOf place c → y < heightOf place c → x′ < widthOf (k .block) c → y′ < heightOf (k .block) c
+      → ((l n : EvcList) (p q : Picture) → n .mv ≡ turn (l .mv) → Turned p q → generalList place n q c x y ≡ generalList (k .block) l p c x′ y′)
+      → sample m c x y ≡ sample k c x′ y′
+  mirror-samples c x y x′ y′ lx ly lx′ ly′ lists =
+      let at = sym (mirror .block) in
+      general-filter m premises mirror-accepted c x y (subst (λ (b : EvcBlock). x < widthOf b c) at lx) (subst (λ (b : EvcBlock). y < heightOf b c) at ly)
+      ∙ mirrored-sample turn Turned place k m mirror c x y x′ y′ (asked k done .some) lists
+      ∙ sym (general-filter k known done c x′ y′ lx′ ly′)
+
+pub left-right : LeftRight
+left-right k m known done mirror =
+    let b = k .block in
+    let a = allowed-block b (asked k done .block) in
+    let block = block-left-right b in
+    let equal = equal-left-right b in (
+      mirror-accepted mvLeftRight (PictureLeftRight b) (blockLeftRight b) k m known done mirror block equal,
+      λ c x x′ y e ly.
+          mirror-samples mvLeftRight (PictureLeftRight b) (blockLeftRight b) k m known done mirror block equal c x y x′ y (omega arith) ly (omega arith) ly
+          (λ l n p q v t. list-left-right b (a .0) (a .1) l n p q v t c x x′ y e),
+    )
+
+pub top-bottom : TopBottom
+top-bottom k m known done mirror =
+    let b = k .block in
+    let a = allowed-block b (asked k done .block) in
+    let block = block-top-bottom b in
+    let equal = equal-top-bottom b in (
+      mirror-accepted mvTopBottom (PictureTopBottom b) (blockTopBottom b) k m known done mirror block equal,
+      λ c x y y′ lx e.
+          mirror-samples mvTopBottom (PictureTopBottom b) (blockTopBottom b) k m known done mirror block equal c x y x y′ lx (omega arith) lx (omega arith)
+          (λ l n p q v t. list-top-bottom b (a .0) (a .1) l n p q v t c x y y′ e),
+    )
+
 -- ---- the exchange
 
 or-swap : (u v : Bool) → u || v ≡ true → v || u ≡ true
@@ -146,3 +210,8 @@ exchange k pred0 pred1 given done long0 long1 =
           ∙ swapped (k .l0 .list .used) (k .l1 .list .used) _ _ (a .some)
           ∙ sym (general-filter k given done c x y lx ly),
     )
+
+-- ---- demand 3
+
+pub demand3 : Demand3
+demand3 = (general-filter, left-right, top-bottom, exchange)

@@ -174,3 +174,8 @@ Exchange =
     (k : Call) (pred0 pred1 : List ℕ) → Premises k → Accepted k → predLen ≤ length pred0 → predLen ≤ length pred1 →
     Accepted (exchanged k pred0 pred1)
     × ((c : Component) (x y : ℕ) → x < widthOf (k .block) c → y < heightOf (k .block) c → sample (exchanged k pred0 pred1) c x y ≡ sample k c x y)
+
+-- ---- demand 3
+
+abbrev pub Demand3 : Type 0
+Demand3 = GeneralFilter × LeftRight × TopBottom × Exchange
