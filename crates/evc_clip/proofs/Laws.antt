@@ -15,14 +15,14 @@ use Rattle.evc_int.proofs.Expressions.{Ex, !, _⊕_, _⊖_, _⊗_, neg, value, 
 use Rattle.evc_int.proofs.Division.{split-only}
 use Rattle.evc_int.proofs.Machine.{fit, rng}
 use Rattle.evc_def.specs.Blocks.{Allowed}
-use Rattle.evc_clip.specs.Clip.{clipComponent}
+use Rattle.evc_clip.specs.Clip.{margin, clipComponent}
 
 -- ---- a clipped component by its three cases, as facts of naturals
 
 data Clips (W x w : ℕ) (mv r : ℤ) : Type 0 where
   low : 4 * x + mv ⁺ + 256 < mv ⁻ → r ⁺ + 4 * x + 256 ≡ r ⁻ → Clips W x w mv r
-  high : 4 * W + 256 + mv ⁻ < 4 * x + mv ⁺ + 4 * w → r ⁺ + 4 * x + 4 * w ≡ 4 * W + 256 + r ⁻ → Clips W x w mv r
-  kept : mv ⁻ ≤ 4 * x + mv ⁺ + 256 → 4 * x + mv ⁺ + 4 * w ≤ 4 * W + 256 + mv ⁻ → r ≡ mv → Clips W x w mv r
+  high : 4 * W + 4 * margin + mv ⁻ < 4 * x + mv ⁺ + 4 * w → r ⁺ + 4 * x + 4 * w ≡ 4 * W + 4 * margin + r ⁻ → Clips W x w mv r
+  kept : mv ⁻ ≤ 4 * x + mv ⁺ + 256 → 4 * x + mv ⁺ + 4 * w ≤ 4 * W + 4 * margin + mv ⁻ → r ≡ mv → Clips W x w mv r
 
 clips : (W x w : ℕ) (mv : ℤ) → Clips W x w mv (clipComponent W x w mv)
 unfolding clipComponent
@@ -32,7 +32,7 @@ clips W x w mv = go _ _ (tested-ex place (! (− 256))) (tested-ex limit last)
     place = ! (pos 4) ⊗ ! (pos x) ⊕ ! mv
 
     limit : Ex
-    limit = ! (pos 4) ⊗ (! (pos W) ⊖ ! (pos 1) ⊕ ! (pos 64))
+    limit = ! (pos 4) ⊗ (! (pos W) ⊖ ! (pos 1) ⊕ ! (pos margin))
 
     last : Ex
     last = place ⊕ ! (pos 4) ⊗ ! (pos w) ⊖ ! (pos 4)
@@ -54,7 +54,7 @@ abbrev pub placeOf : ℕ → ℤ → ℤ
 placeOf x mv = pos 4 *ℤ pos x +ℤ mv
 
 abbrev pub lastPlace : ℕ → ℕ → ℤ
-lastPlace W w = pos 4 *ℤ (pos W +ℤ pos 64 -ℤ pos w)
+lastPlace W w = pos 4 *ℤ (pos W +ℤ pos margin -ℤ pos w)
 
 module _ (W x w : ℕ) (mv : ℤ) (h : w ≤ W) where
   pub clipped-place : placeOf x (clipComponent W x w mv) ≡ clip3 (− 256) (lastPlace W w) (placeOf x mv)
@@ -65,7 +65,7 @@ module _ (W x w : ℕ) (mv : ℤ) (h : w ≤ W) where
       place = ! (pos 4) ⊗ ! (pos x) ⊕ ! mv
 
       top : Ex
-      top = ! (pos 4) ⊗ (! (pos W) ⊕ ! (pos 64) ⊖ ! (pos w))
+      top = ! (pos 4) ⊗ (! (pos W) ⊕ ! (pos margin) ⊖ ! (pos w))
 
       new : ℤ → Ex
       new r = ! (pos 4) ⊗ ! (pos x) ⊕ ! r
@@ -126,7 +126,7 @@ module _ (W x w : ℕ) (mv : ℤ) (ok : Allowed W x w) where
       at r = ! (pos 4) ⊗ ! (pos x) ⊕ ! r
 
       top : Ex
-      top = ! (pos 4) ⊗ (! (pos W) ⊕ ! (pos 64) ⊖ ! (pos w))
+      top = ! (pos 4) ⊗ (! (pos W) ⊕ ! (pos margin) ⊖ ! (pos w))
 
       go : (r : ℤ) → Clips W x w mv r → (− 256 ≤ℤ placeOf x r) × (placeOf x r ≤ℤ lastPlace W w)
       go r (low a p) = (solve≤ (! (− 256)) (at r) (omega arith), solve≤ (at r) top (omega arith))
@@ -143,7 +143,7 @@ module _ (W x w : ℕ) (mv : ℤ) (ok : Allowed W x w) where
       at r = ! (pos 4) ⊗ ! (pos x) ⊕ ! r
 
       q : ℕ
-      q = (W + 64 - w) / 4
+      q = (W + margin - w) / 4
 
       go : (r : ℤ) → (r ≡ mv → ⊥) → Clips W x w mv r → placeOf x r modulo 16 ≡ 0
       go r n (low a p) = split-only 16 (placeOf x r) (− 16) 0 (lit< tt) (solve (at r) (! (pos 16) ⊗ ! (− 16) ⊕ ! (pos 0)) (omega arith)) .1

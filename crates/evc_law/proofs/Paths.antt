@@ -17,7 +17,7 @@ use Rattle.evc_int.proofs.Expressions.{ !, _⊕_, _⊖_, _⊗_, neg, solve, fac
 use Rattle.evc_def.specs.Blocks.{Allowed}
 use Rattle.evc_def.specs.declared.EvcBlock.{EvcBlock}
 use Rattle.evc_def.specs.declared.EvcMv.{EvcMv}
-use Rattle.evc_clip.specs.Clip.{clipComponent, clipMv, clippedPlace}
+use Rattle.evc_clip.specs.Clip.{margin, clipComponent, clipMv, clippedPlace}
 use Rattle.evc_clip.proofs.Laws.{lastPlace, clipped-place}
 use Rattle.evc_plane.specs.Padding.{padded, padCode, padAfter}
 use Rattle.evc_plane.specs.Planes.{sideOf, padOf, strideOf, referenceOf}
@@ -54,11 +54,11 @@ module _ (k : PlaneType) (W x w : ℕ) (mv : ℤ) (ok : Allowed W x w) where
   unfolding phaseOf
   clipped-phase h =
       let zero-phase : phaseOf k (pos 0) ≡ 0 = none k in
-      let q = (W + 64 - w) / 4 in
+      let q = (W + margin - w) / 4 in
       subst (λ (z : ℤ). phaseOf k z ≡ 0) (sym (clipped-place W x w mv (omega arith)))
       (clip3-one (− 256) (lastPlace W w) (pos 4 *ℤ pos x +ℤ mv) (λ (z : ℤ). phaseOf k z ≡ 0)
       (aligned-phase k (− 256) (− 16) (pos 0) refl zero-phase)
-      (aligned-phase k (lastPlace W w) (pos q) (pos 0) (solve (! (pos 4) ⊗ (! (pos W) ⊕ ! (pos 64) ⊖ ! (pos w))) (! (pos 16) ⊗ ! (pos q) ⊕ ! (pos 0)) (omega arith)) zero-phase)
+      (aligned-phase k (lastPlace W w) (pos q) (pos 0) (solve (! (pos 4) ⊗ (! (pos W) ⊕ ! (pos margin) ⊖ ! (pos w))) (! (pos 16) ⊗ ! (pos q) ⊕ ! (pos 0)) (omega arith)) zero-phase)
       (aligned-phase k (pos 4 *ℤ pos x +ℤ mv) (pos (x / 4)) mv (solve (! (pos 4) ⊗ ! (pos x) ⊕ ! mv) (! (pos 16) ⊗ ! (pos (x / 4)) ⊕ ! mv) (omega arith)) h))
     where
       none : (k : PlaneType) → phaseOf k (pos 0) ≡ 0

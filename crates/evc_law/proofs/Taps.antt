@@ -9,11 +9,13 @@ use lib.ListN.{length, length-reverse}
 use Rattle.evc_int.specs.Whole.{−_}
 use Rattle.evc_int.proofs.Expressions.{ !, _⊕_, _⊖_, _⊗_, neg, solve, fact}
 use Rattle.evc_int.proofs.Division.{split, split-only, modulo-lt}
+use Rattle.evc_def.proofs.Tables.{luma-symmetric, chroma-symmetric}
 use Rattle.evc_plane.specs.declared.PlaneType.{PlaneType}
 use Rattle.evc_plane.specs.declared.PlaneType.the-variants.{Y, UV}
 use Rattle.evc_filter.specs.Filter.{taps, phases, lead, reach, tapSum, firstStage, secondStage}
 use Rattle.evc_filter.proofs.Sums.{shape}
 use Rattle.evc_interp.specs.Prediction.{phaseOf, placeOf}
+use Rattle.evc_interp.proofs.Windows.{some-phase}
 use Rattle.evc_law.specs.General.{tapped, general₁, general}
 use Rattle.evc_law.proofs.Phases.{tapped-whole, tapped-same}
 
@@ -42,29 +44,14 @@ tapSum-mirror (t ∷ ts) f g m =
 
 -- ---- the fixed filters
 
--- the taps of a phase but 0 are those of the phase as far from the next sample, reversed
 pub taps-mirror : (k : PlaneType) (q : ℕ) → suc q < phases k → taps k (phases k - suc q) ≡ reverse (taps k (suc q))
-taps-mirror Y zero h = refl
-taps-mirror Y (suc zero) h = refl
-taps-mirror Y (suc (suc zero)) h = refl
-taps-mirror Y (suc (suc (suc q))) h = absurd (omega arith)
-taps-mirror UV zero h = refl
-taps-mirror UV (suc zero) h = refl
-taps-mirror UV (suc (suc zero)) h = refl
-taps-mirror UV (suc (suc (suc zero))) h = refl
-taps-mirror UV (suc (suc (suc (suc zero)))) h = refl
-taps-mirror UV (suc (suc (suc (suc (suc zero))))) h = refl
-taps-mirror UV (suc (suc (suc (suc (suc (suc zero)))))) h = refl
-taps-mirror UV (suc (suc (suc (suc (suc (suc (suc q))))))) h = absurd (omega arith)
+taps-mirror Y = luma-symmetric
+taps-mirror UV = chroma-symmetric
 
--- they lie evenly around the place and the sample after it
+-- the taps lie evenly around the place and the sample after it
 reach-even : (k : PlaneType) → reach k ≡ 2 * lead k + 1
 reach-even Y = refl
 reach-even UV = refl
-
-some-phase : (k : PlaneType) → 0 < phases k
-some-phase Y = omega arith
-some-phase UV = omega arith
 
 -- ---- the taps of a place
 
