@@ -8,7 +8,7 @@ use native.Mathlib.Nat.{le-refl, mul-le-mul}
 use native.Mathlib.Omega.{arith}
 use lib.Dec.{T, ltb, lit<}
 use lib.ListN.{length, getD}
-use borrow.Author.Tests.{ltb-false, le-ltb}
+use borrow.Author.Tests.{ltb-false, le-ltb, not-false}
 use Rattle.evc_int.proofs.Lists.{row-fits, length-withBlock, withBlock-in, withBlock-before}
 use Rattle.evc_def.specs.Blocks.{Allowed, maxPoc}
 use Rattle.evc_def.specs.Codes.{firstOf, blockChecks}
@@ -122,16 +122,12 @@ module _ (b : EvcBlock) (l m : RefPicList) (pred0 pred1 : List ℕ) where
       let n5 = none-true (pocExceeds (l .list)) (pocExceeds (m .list)) (c5 .0) in
       record {
         block = f .0;
-        some = not-not (l .list .used || m .list .used) (c3 .0);
+        some = not-false (l .list .used || m .list .used) (c3 .0);
         count0 = λ u. ltb-false _ _ (used-if (l .list .used) _ (n5 .0) u);
         count1 = λ u. ltb-false _ _ (used-if (m .list .used) _ (n5 .1) u);
         long0 = ltb-false _ _ (n4′ .1);
         long1 = ltb-false _ _ (n4 .1);
       }
-    where
-      not-not : (t : Bool) → not t ≡ false → t ≡ true
-      not-not true e = refl
-      not-not false e = absurd (subst T e tt)
 
 -- ---- what stands in a block: its three parts lie apart, of 64 by 64 samples and twice 32 by 32
 

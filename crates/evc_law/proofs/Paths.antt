@@ -1,15 +1,16 @@
 -- The four paths over a padded plane are the general filter over the padded reference picture: what a path reads through its clamped window, and that a direction
 -- which the path does not filter has phase 0 at the clipped place. Assumes nothing.
-use mathlib.Core.Bool.{Bool, true, false, not}
+use mathlib.Core.Bool.{Bool, true, false}
 use mathlib.Core.List.{List}
 use mathlib.Core.Path.{_≡_, refl, sym, ap, ap₂, subst, _∙_}
 use Prim.Native.Nat.{ℕ, _+_, _-_, _*_, _/_, _≤_, _<_}
 use native.Mathlib.Omega.{arith}
 use native.Mathlib.Nat.{add-mul}
-use lib.Dec.{T, eqb, eqb→eq, lit<}
+use lib.Dec.{eqb, lit<}
 use lib.IntN.{ℤ, pos, _+ℤ_, _*ℤ_}
 use lib.ListN.{length, getD}
 use lib.Signed.{shrZ}
+use borrow.Author.Tests.{eqb-true, not-false}
 use Rattle.evc_int.specs.Whole.{−_, _modulo_}
 use Rattle.evc_int.proofs.Clipping.{clip3-one}
 use Rattle.evc_int.proofs.Division.{split, split-only}
@@ -67,11 +68,7 @@ module _ (k : PlaneType) (W x w : ℕ) (mv : ℤ) (ok : Allowed W x w) where
 
   pub unfiltered-phase : isFiltered k mv ≡ false → phaseOf k (pos 4 *ℤ pos x +ℤ clipComponent W x w mv) ≡ 0
   unfolding isFiltered
-  unfiltered-phase e = clipped-phase (eqb→eq (phaseOf k mv) 0 (unnot (eqb (phaseOf k mv) 0) e))
-    where
-      unnot : (a : Bool) → not a ≡ false → T a
-      unnot true e = tt
-      unnot false e = absurd (subst T e tt)
+  unfiltered-phase e = clipped-phase (eqb-true (phaseOf k mv) 0 (not-false (eqb (phaseOf k mv) 0) e))
 
 -- ---- what a path reads: the plane is the one that padding made of q, its window starts at the place gmv
 
