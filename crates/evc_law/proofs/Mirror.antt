@@ -19,9 +19,9 @@ use Rattle.evc_filter.specs.Filter.{phases}
 use Rattle.evc_clip.specs.Clip.{clipComponent, clipMv, clippedPlace}
 use Rattle.evc_clip.proofs.Laws.{placeOf, clipped-mirror}
 use Rattle.evc_mc.specs.declared.EvcList.{EvcList}
-use Rattle.evc_mc.specs.Block.{Component, typeOf, widthOf, heightOf, average}
+use Rattle.evc_mc.specs.Block.{Component, typeOf, widthOf, heightOf}
 use Rattle.evc_law.specs.General.{general}
-use Rattle.evc_law.specs.Demand3.{Picture, Made, Equal, Call, Premises, generalList, generalSample, PictureLeftRight, PictureTopBottom, blockLeftRight, blockTopBottom, mvLeftRight, mvTopBottom, Mirrored}
+use Rattle.evc_law.specs.Demand3.{Picture, Made, Equal, Call, Premises, generalList, roundedAverage, generalSample, PictureLeftRight, PictureTopBottom, blockLeftRight, blockTopBottom, mvLeftRight, mvTopBottom, Mirrored}
 use Rattle.evc_law.proofs.Taps.{general-left-right, general-top-bottom}
 
 -- ---- one direction of a block in a plane
@@ -108,8 +108,8 @@ module _ (b : EvcBlock) (p p′ q q′ : Picture) where
 
 -- a list not in use is not read
 by-used : (u v u′ v′ : Bool) (a b a′ b′ : ℕ) → u || v ≡ true → u′ ≡ u → v′ ≡ v → (u ≡ true → a′ ≡ a) → (v ≡ true → b′ ≡ b)
-    → cond (u′ && v′) (average a′ b′) (cond u′ a′ b′) ≡ cond (u && v) (average a b) (cond u a b)
-by-used true true u′ v′ a b a′ b′ s e f g h = rw (e, f) (ap₂ average (g refl) (h refl))
+    → cond (u′ && v′) (roundedAverage a′ b′) (cond u′ a′ b′) ≡ cond (u && v) (roundedAverage a b) (cond u a b)
+by-used true true u′ v′ a b a′ b′ s e f g h = rw (e, f) (ap₂ roundedAverage (g refl) (h refl))
 by-used true false u′ v′ a b a′ b′ s e f g h = rw (e, f) (g refl)
 by-used false true u′ v′ a b a′ b′ s e f g h = rw e (h refl)
 by-used false false u′ v′ a b a′ b′ s e f g h = absurd (subst T (sym s) tt)

@@ -21,7 +21,7 @@ use Rattle.evc_plane.proofs.Laws.{reference-agree}
 use Rattle.evc_mc.specs.declared.EvcList.{EvcList}
 use Rattle.evc_mc.specs.Block.{RefPicList, Component, typeOf, offsetOf, widthOf, heightOf, withSamples, listSample, sameMotion, isBi, average, firstSample, mc2Code, mc2First}
 use Rattle.evc_law.specs.General.{general}
-use Rattle.evc_law.specs.Demand3.{Picture, Equal, Call, Premises, Accepted, sample, generalList, GeneralFilter, PictureLeftRight, PictureTopBottom, blockLeftRight, blockTopBottom, mvLeftRight, mvTopBottom, Mirrored, LeftRight, TopBottom, exchanged, Exchange, Demand3}
+use Rattle.evc_law.specs.Demand3.{Picture, Equal, Call, Premises, Accepted, sample, generalList, roundedAverage, GeneralFilter, PictureLeftRight, PictureTopBottom, blockLeftRight, blockTopBottom, mvLeftRight, mvTopBottom, Mirrored, LeftRight, TopBottom, exchanged, Exchange, Demand3}
 use Rattle.evc_law.proofs.Calls.{list-general, Asked, accepts-call, accepted-call, block-holds}
 use Rattle.evc_law.proofs.Mirror.{some-side, block-left-right, block-top-bottom, list-left-right, list-top-bottom, equal-left-right, equal-top-bottom, mirrored-sample, mirrored-premises}
 
@@ -76,7 +76,7 @@ module _ (b : EvcBlock) (across : Allowed (b .«pic_w») (b .x) (b .w)) (down : 
 
 -- the samples d and e of the lists in use are the general filter's, f and g; these are one where list 0 alone stands
 chosen : (u v same : Bool) (d e f g : ℕ) → (u ≡ true → d ≡ f) → (v ≡ true → e ≡ g) → (u ≡ true → v ≡ true → same ≡ true → f ≡ g) → u || v ≡ true
-    → cond (u && v && not same) (average d e) (cond u d e) ≡ cond (u && v) (average f g) (cond u f g)
+    → cond (u && v && not same) (average d e) (cond u d e) ≡ cond (u && v) (roundedAverage f g) (cond u f g)
 chosen true true true d e f g p q r some = let a = p refl in let b = r refl refl refl in omega arith
 chosen true true false d e f g p q r some = ap₂ average (p refl) (q refl)
 chosen true false same d e f g p q r some = p refl
@@ -176,7 +176,7 @@ or-swap true false e = refl
 or-swap false true e = refl
 or-swap false false e = e
 
-swapped : (u v : Bool) (f g : ℕ) → u || v ≡ true → cond (v && u) (average g f) (cond v g f) ≡ cond (u && v) (average f g) (cond u f g)
+swapped : (u v : Bool) (f g : ℕ) → u || v ≡ true → cond (v && u) (roundedAverage g f) (cond v g f) ≡ cond (u && v) (roundedAverage f g) (cond u f g)
 swapped true true f g e = omega arith
 swapped true false f g e = refl
 swapped false true f g e = refl
