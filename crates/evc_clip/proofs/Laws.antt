@@ -5,24 +5,24 @@ use mathlib.Core.Path.{_≡_, refl, sym, ap, subst, _∙_}
 use Prim.Native.Nat.{ℕ, _+_, _-_, _*_, _/_, _%_, _≤_, _<_}
 use native.Mathlib.Omega.{arith}
 use lib.Dec.{lit<}
-use lib.IntN.{ℤ, pos, _+ℤ_, _-ℤ_, _*ℤ_}
+use lib.IntN.{ℤ, pos, negℤ, _+ℤ_, _-ℤ_, _*ℤ_}
 use lib.Signed.{ltZ, _≤ℤ_}
 use mir.Syntax.{w16}
 use mir.Val.{SFits}
 use Rattle.evc_int.specs.Whole.{−_, _⁺, _⁻, _modulo_, clip3}
 use Rattle.evc_int.proofs.Whole.{Tested, under, not-under, of}
-use Rattle.evc_int.proofs.Expressions.{Ex, !, _⊕_, _⊖_, _⊗_, value, more, less, solve, fact, solve≤, tested-ex}
+use Rattle.evc_int.proofs.Expressions.{Ex, !, _⊕_, _⊖_, _⊗_, neg, value, more, less, solve, fact, solve≤, tested-ex}
 use Rattle.evc_int.proofs.Division.{split-only}
 use Rattle.evc_int.proofs.Machine.{fit, rng}
 use Rattle.evc_def.specs.Blocks.{Allowed}
-use Rattle.evc_clip.specs.Clip.{clipComponent}
+use Rattle.evc_clip.specs.Clip.{margin, clipComponent}
 
 -- ---- a clipped component by its three cases, as facts of naturals
 
 data Clips (W x w : ℕ) (mv r : ℤ) : Type 0 where
   low : 4 * x + mv ⁺ + 256 < mv ⁻ → r ⁺ + 4 * x + 256 ≡ r ⁻ → Clips W x w mv r
-  high : 4 * W + 256 + mv ⁻ < 4 * x + mv ⁺ + 4 * w → r ⁺ + 4 * x + 4 * w ≡ 4 * W + 256 + r ⁻ → Clips W x w mv r
-  kept : mv ⁻ ≤ 4 * x + mv ⁺ + 256 → 4 * x + mv ⁺ + 4 * w ≤ 4 * W + 256 + mv ⁻ → r ≡ mv → Clips W x w mv r
+  high : 4 * W + 4 * margin + mv ⁻ < 4 * x + mv ⁺ + 4 * w → r ⁺ + 4 * x + 4 * w ≡ 4 * W + 4 * margin + r ⁻ → Clips W x w mv r
+  kept : mv ⁻ ≤ 4 * x + mv ⁺ + 256 → 4 * x + mv ⁺ + 4 * w ≤ 4 * W + 4 * margin + mv ⁻ → r ≡ mv → Clips W x w mv r
 
 clips : (W x w : ℕ) (mv : ℤ) → Clips W x w mv (clipComponent W x w mv)
 unfolding clipComponent
@@ -32,7 +32,7 @@ clips W x w mv = go _ _ (tested-ex place (! (− 256))) (tested-ex limit last)
     place = ! (pos 4) ⊗ ! (pos x) ⊕ ! mv
 
     limit : Ex
-    limit = ! (pos 4) ⊗ (! (pos W) ⊖ ! (pos 1) ⊕ ! (pos 64))
+    limit = ! (pos 4) ⊗ (! (pos W) ⊖ ! (pos 1) ⊕ ! (pos margin))
 
     last : Ex
     last = place ⊕ ! (pos 4) ⊗ ! (pos w) ⊖ ! (pos 4)
@@ -54,7 +54,7 @@ abbrev pub placeOf : ℕ → ℤ → ℤ
 placeOf x mv = pos 4 *ℤ pos x +ℤ mv
 
 abbrev pub lastPlace : ℕ → ℕ → ℤ
-lastPlace W w = pos 4 *ℤ (pos W +ℤ pos 64 -ℤ pos w)
+lastPlace W w = pos 4 *ℤ (pos W +ℤ pos margin -ℤ pos w)
 
 module _ (W x w : ℕ) (mv : ℤ) (h : w ≤ W) where
   pub clipped-place : placeOf x (clipComponent W x w mv) ≡ clip3 (− 256) (lastPlace W w) (placeOf x mv)
@@ -65,7 +65,7 @@ module _ (W x w : ℕ) (mv : ℤ) (h : w ≤ W) where
       place = ! (pos 4) ⊗ ! (pos x) ⊕ ! mv
 
       top : Ex
-      top = ! (pos 4) ⊗ (! (pos W) ⊕ ! (pos 64) ⊖ ! (pos w))
+      top = ! (pos 4) ⊗ (! (pos W) ⊕ ! (pos margin) ⊖ ! (pos w))
 
       new : ℤ → Ex
       new r = ! (pos 4) ⊗ ! (pos x) ⊕ ! r
@@ -79,6 +79,32 @@ module _ (W x w : ℕ) (mv : ℤ) (h : w ≤ W) where
       go r false false (high a p) (not-under b) (not-under c) = absurd (omega arith)
       go r false true (kept a b p) (not-under d) (under c) = absurd (omega arith)
       go r false false (kept a b p) (not-under d) (not-under c) = ap (λ (z : ℤ). placeOf x z) p
+
+-- ---- the mirror: the vector negated, the block as far from the picture's other end (x + x′ + w ≡ W). The two clipped places add up to 4 (W - w)
+
+module _ (W x x′ w : ℕ) (mv : ℤ) (h : x + x′ + w ≡ W) where
+  pub clipped-mirror : placeOf x (clipComponent W x w mv) +ℤ placeOf x′ (clipComponent W x′ w (negℤ mv)) ≡ pos 4 *ℤ (pos W -ℤ pos w)
+  clipped-mirror = go _ _ (clips W x w mv) (clips W x′ w (negℤ mv))
+    where
+      sum : ℤ → ℤ → Ex
+      sum r r′ = ! (pos 4) ⊗ ! (pos x) ⊕ ! r ⊕ (! (pos 4) ⊗ ! (pos x′) ⊕ ! r′)
+
+      free : Ex
+      free = ! (pos 4) ⊗ (! (pos W) ⊖ ! (pos w))
+
+      turned : negℤ mv ⁺ + mv ⁺ ≡ mv ⁻ + negℤ mv ⁻
+      turned = fact (! (negℤ mv)) (neg (! mv)) refl
+
+      go : (r r′ : ℤ) → Clips W x w mv r → Clips W x′ w (negℤ mv) r′ → value (sum r r′) ≡ value free
+      go r r′ (low a p) (low a′ p′) = absurd (omega (arith, turned))
+      go r r′ (low a p) (high a′ p′) = solve (sum r r′) free (omega arith)
+      go r r′ (low a p) (kept a′ b′ p′) = absurd (omega (arith, turned))
+      go r r′ (high a p) (low a′ p′) = solve (sum r r′) free (omega arith)
+      go r r′ (high a p) (high a′ p′) = absurd (omega (arith, turned))
+      go r r′ (high a p) (kept a′ b′ p′) = absurd (omega (arith, turned))
+      go r r′ (kept a b p) (low a′ p′) = absurd (omega (arith, turned))
+      go r r′ (kept a b p) (high a′ p′) = absurd (omega (arith, turned))
+      go r r′ (kept a b p) (kept a′ b′ p′) = solve (sum r r′) free (omega (arith, fact (! r) (! mv) p, fact (! r′) (neg (! mv)) p′))
 
 -- ---- for a block that the checks allow
 
@@ -100,7 +126,7 @@ module _ (W x w : ℕ) (mv : ℤ) (ok : Allowed W x w) where
       at r = ! (pos 4) ⊗ ! (pos x) ⊕ ! r
 
       top : Ex
-      top = ! (pos 4) ⊗ (! (pos W) ⊕ ! (pos 64) ⊖ ! (pos w))
+      top = ! (pos 4) ⊗ (! (pos W) ⊕ ! (pos margin) ⊖ ! (pos w))
 
       go : (r : ℤ) → Clips W x w mv r → (− 256 ≤ℤ placeOf x r) × (placeOf x r ≤ℤ lastPlace W w)
       go r (low a p) = (solve≤ (! (− 256)) (at r) (omega arith), solve≤ (at r) top (omega arith))
@@ -117,7 +143,7 @@ module _ (W x w : ℕ) (mv : ℤ) (ok : Allowed W x w) where
       at r = ! (pos 4) ⊗ ! (pos x) ⊕ ! r
 
       q : ℕ
-      q = (W + 64 - w) / 4
+      q = (W + margin - w) / 4
 
       go : (r : ℤ) → (r ≡ mv → ⊥) → Clips W x w mv r → placeOf x r modulo 16 ≡ 0
       go r n (low a p) = split-only 16 (placeOf x r) (− 16) 0 (lit< tt) (solve (at r) (! (pos 16) ⊗ ! (− 16) ⊕ ! (pos 0)) (omega arith)) .1

@@ -11,11 +11,15 @@ use Rattle.evc_def.specs.declared.EvcBlock.{EvcBlock}
 use Rattle.evc_def.specs.declared.EvcMv.{EvcMv}
 use Rattle.evc_clip.specs.declared.EvcClipped.{EvcClipped}
 
+-- how many samples past the picture's last one a block's last one may lie, MAX_CU_SIZE of the Rust: "4(W - 1 + 64)"
+abbrev pub margin : ℕ
+margin = 64
+
 -- "if 4x + mvx < -256, the vector becomes -256 - 4x; if 4x + mvx + 4w - 4 > 4(W - 1 + 64), it becomes that limit - 4x - 4w + 4; y likewise."
 -- One component: W is the picture's side, x the block's place and w its side, in that component's direction. The sums are exact.
 unfoldable pub clipComponent : ℕ → ℕ → ℕ → ℤ → ℤ
 clipComponent W x w mv =
-    let limit = pos 4 *ℤ (pos W -ℤ pos 1 +ℤ pos 64) in
+    let limit = pos 4 *ℤ (pos W -ℤ pos 1 +ℤ pos margin) in
     cond (ltZ (pos 4 *ℤ pos x +ℤ mv) (− 256)) (− 256 -ℤ pos 4 *ℤ pos x)
     (cond (ltZ limit (pos 4 *ℤ pos x +ℤ mv +ℤ pos 4 *ℤ pos w -ℤ pos 4)) (limit -ℤ pos 4 *ℤ pos x -ℤ pos 4 *ℤ pos w +ℤ pos 4) mv)
 

@@ -1,15 +1,16 @@
--- What the checks leave: an accepted block is allowed in both directions. Assumes nothing.
+-- What the checks leave: an accepted block is allowed in both directions; it is accepted at its mirrored places too. Assumes nothing.
 use mathlib.Core.Bool.{Bool, true, false, not, _&&_, _||_}
 use mathlib.Core.Logic.{⊎-elim}
-use mathlib.Core.Path.{_≡_, subst}
-use Prim.Native.Nat.{ℕ, _+_, _%_, _≤_}
+use mathlib.Core.Path.{_≡_, refl, ap₂, subst, _∙_}
+use Prim.Native.Nat.{ℕ, _+_, _-_, _%_, _≤_}
 use native.Mathlib.Omega.{arith}
 use lib.Dec.{T, leb, eqb, leb→le, eqb→eq}
+use borrow.Author.Tests.{eq-eqb, le-leb}
 use mir.Facts.{and-yes}
 use Rattle.evc_def.specs.Blocks.{isPictureSide, isBlockSide, isInside, badPicture, badBlock, Allowed}
 use Rattle.evc_def.specs.Codes.{firstOf, blockChecks}
 use Rattle.evc_def.specs.declared.EvcBlock.{EvcBlock}
-use Rattle.evc_def.proofs.Codes.{accepted, or-yes}
+use Rattle.evc_def.proofs.Codes.{accepted, passed, none, or-yes}
 
 -- a block's side is a multiple of 4 from 4 to 64
 side-is : (n : ℕ) → T (isBlockSide n) → (4 ≤ n) × (n ≤ 64) × (n % 4 ≡ 0)
@@ -62,3 +63,37 @@ allowed-block b e =
     let f = accepted 1 _ _ (omega arith) e in
     let g = accepted 2 _ _ (omega arith) (f .1) in
     allowed b (f .0) (g .0)
+
+-- ---- a block at another place of its picture
+
+pub allowed-mirror : (size place side : ℕ) → Allowed size place side → Allowed size (size - place - side) side
+allowed-mirror size place side a =
+    record {
+      size-fours = a .size-fours;
+      place-fours = omega arith;
+      side-fours = a .side-fours;
+      size-high = a .size-high;
+      side-low = a .side-low;
+      side-high = a .side-high;
+      inside = omega arith;
+    }
+
+inside-is : (size place side : ℕ) → Allowed size place side → isInside size place side ≡ true
+inside-is size place side a = ap₂ (λ (s t : Bool). s && t) (eq-eqb (place % 4) 0 (a .place-fours)) (le-leb (place + side) size (a .inside))
+
+-- its sides were accepted already
+pub accepted-at : (b : EvcBlock) (x y : ℕ) → firstOf (blockChecks b) ≡ 0 → Allowed (b .«pic_w») x (b .w) → Allowed (b .«pic_h») y (b .h)
+    → firstOf (blockChecks (record { «pic_w» = b .«pic_w»; «pic_h» = b .«pic_h»; x = x; y = y; w = b .w; h = b .h })) ≡ 0
+unfolding badBlock
+accepted-at b x y e ax ay =
+    let f = accepted 1 _ _ (omega arith) e in
+    let g = accepted 2 _ _ (omega arith) (f .1) in
+    passed 1 _ _ (f .0)
+    ∙ passed 2 _ _
+    (again (isBlockSide (b .w)) (isBlockSide (b .h)) (isInside (b .«pic_w») (b .x) (b .w)) (isInside (b .«pic_h») (b .y) (b .h)) _ _ (g .0) (inside-is (b .«pic_w») x (b .w) ax) (inside-is (b .«pic_h») y (b .h) ay))
+    ∙ none
+  where
+    again : (w h x y x′ y′ : Bool) → not (w && h && x && y) ≡ false → x′ ≡ true → y′ ≡ true → not (w && h && x′ && y′) ≡ false
+    again true true x y x′ y′ e p q = rw (p, q) refl
+    again true false x y x′ y′ e p q = e
+    again false h x y x′ y′ e p q = e

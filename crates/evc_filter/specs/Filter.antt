@@ -68,17 +68,15 @@ unfoldable pub interpolatedTwice : PlaneType → ℕ → ℕ → List ℕ → �
 interpolatedTwice k dx dy s at stride = secondStage (tapSum (taps k dy) (λ (j : ℕ). rowStage k dx s (at + j * stride)))
 
 -- 'Edges to try': the lines on the filters
-abbrev over : PlaneType → ℕ → List ℕ → ℤ
-over k phase s = tapSum (taps k phase) (along s 0 1)
-
 abbrev pub FilterEdges : Type 0
 FilterEdges =
-    (oneDirection (over Y 2 (0 ∷ 0 ∷ 1023 ∷ 1023 ∷ 0 ∷ 0 ∷ [])) ≡ 1023)
-    × (oneDirection (over Y 2 (1023 ∷ 1023 ∷ 0 ∷ 0 ∷ 1023 ∷ 1023 ∷ [])) ≡ 0)
-    × (oneDirection (over Y 1 (0 ∷ 0 ∷ 100 ∷ 200 ∷ 0 ∷ 0 ∷ [])) ≡ 144)
-    × (oneDirection (over Y 3 (0 ∷ 0 ∷ 100 ∷ 200 ∷ 0 ∷ 0 ∷ [])) ≡ 194)
-    × (oneDirection (over UV 1 (0 ∷ 64 ∷ 128 ∷ 0 ∷ [])) ≡ 78)
-    × (firstStage (over Y 1 (0 ∷ 1 ∷ 0 ∷ 0 ∷ 0 ∷ 0 ∷ [])) ≡ − 2)
+    (interpolated Y 2 (0 ∷ 0 ∷ 1023 ∷ 1023 ∷ 0 ∷ 0 ∷ []) 0 1 ≡ 1023)
+    × (interpolated Y 2 (1023 ∷ 1023 ∷ 0 ∷ 0 ∷ 1023 ∷ 1023 ∷ []) 0 1 ≡ 0)
+    × (interpolated Y 1 (0 ∷ 0 ∷ 100 ∷ 200 ∷ 0 ∷ 0 ∷ []) 0 1 ≡ 144)
+    × (interpolated Y 3 (0 ∷ 0 ∷ 100 ∷ 200 ∷ 0 ∷ 0 ∷ []) 0 1 ≡ 194)
+    × (interpolated UV 1 (0 ∷ 64 ∷ 128 ∷ 0 ∷ []) 0 1 ≡ 78)
+    × (rowStage Y 1 (0 ∷ 1 ∷ 0 ∷ 0 ∷ 0 ∷ 0 ∷ []) 0 ≡ − 2)
 
 pub filterEdges : FilterEdges
+unfolding interpolated rowStage
 filterEdges = (refl, refl, refl, refl, refl, refl)

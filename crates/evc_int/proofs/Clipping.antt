@@ -30,3 +30,13 @@ module _ (lo hi z : ℤ) where
       go true t (under a) b = omega arith
       go false true (not-under a) (under b) = omega arith
       go false false (not-under a) (not-under b) = omega arith
+
+  -- what holds of all three values holds of the one
+  pub clip3-one : (P : ℤ → Type 0) → P lo → P hi → P z → P (clip3 lo hi z)
+  unfolding clip3
+  clip3-one P p q r = go (ltZ z lo) (ltZ hi z)
+    where
+      go : (s t : Bool) → P (cond s lo (cond t hi z))
+      go true t = p
+      go false true = q
+      go false false = r

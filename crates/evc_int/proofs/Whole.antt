@@ -7,8 +7,8 @@ use native.Mathlib.Omega.{arith}
 use native.Mathlib.Nat.{mul-le-mul}
 use lib.IntN.{ℤ, pos, negsuc, negℤ, _+ℤ_, _-ℤ_, _*ℤ_, subℕ, natAbs}
 use lib.Signed.{ltZ, leZ, _≤ℤ_, _<ℤ_}
-use lib.Dec.{T, ltb, ltb→lt, nltb→le, leb, leb→le, nleb→lt}
-use Rattle.evc_int.specs.Whole.{_⁺, _⁻}
+use lib.Dec.{T, ltb, ltb→lt, nltb→le, leb, leb→le, nleb→lt, eqb→eq}
+use Rattle.evc_int.specs.Whole.{_⁺, _⁻, eqZ}
 
 pub record Is (z : ℤ) (a b : ℕ) : Type 0 where
   pub is : z ⁺ + b ≡ a + z ⁻
@@ -91,6 +91,12 @@ one (negsuc a) (negsuc b) e = ap negsuc (omega arith)
 
 pub same : {x y : ℤ} {a b c d : ℕ} → Is x a b → Is y c d → a + d ≡ c + b → x ≡ y
 same {x} {y} {a} {b} {c} {d} p q e = one x y (omega arith)
+
+pub eqZ-true : (x y : ℤ) → eqZ x y ≡ true → x ≡ y
+eqZ-true (pos a) (pos b) e = ap pos (eqb→eq a b (subst T (sym e) tt))
+eqZ-true (pos a) (negsuc b) e = absurd (subst T (sym e) tt)
+eqZ-true (negsuc a) (pos b) e = absurd (subst T (sym e) tt)
+eqZ-true (negsuc a) (negsuc b) e = ap negsuc (eqb→eq a b (subst T (sym e) tt))
 
 pub as-pos : {z : ℤ} {a b : ℕ} → Is z a b → (n : ℕ) → a ≡ n + b → z ≡ pos n
 as-pos p n h = same p (nat n) (omega arith)

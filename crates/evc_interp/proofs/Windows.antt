@@ -180,13 +180,13 @@ pub stride-small : (k : PlaneType) (W H S : ℕ) → S ≡ strideOf k W → badP
 unfolding configOf
 stride-small k W H S f e = omega (arith, sizes k W H e .stride-top)
 
+pub some-phase : (k : PlaneType) → 0 < phases k
+some-phase Y = omega arith
+some-phase UV = omega arith
+
 pub phase-small : (k : PlaneType) (z : ℤ) (n : ℕ) → n ≡ phaseOf k z → n < phases k
 unfolding phaseOf
-phase-small k z n e = subst (λ (n : ℕ). n < phases k) (sym e) (modulo-lt (phases k) z (some k))
-  where
-    some : (k : PlaneType) → 0 < phases k
-    some Y = omega arith
-    some UV = omega arith
+phase-small k z n e = subst (λ (n : ℕ). n < phases k) (sym e) (modulo-lt (phases k) z (some-phase k))
 
 -- ---- what a path gives, by the bits that it was chosen by
 

@@ -3,7 +3,7 @@
 use mathlib.Core.Bool.{Bool, true, cond, _&&_}
 use mathlib.Core.List.{List}
 use mathlib.Core.Path.{_≡_}
-use Prim.Native.Nat.{ℕ, _+_, _*_, _-_, _≤_, _<_}
+use Prim.Native.Nat.{ℕ, _+_, _*_, _-_, _/_, _≤_, _<_}
 use lib.IntN.{ℤ, negℤ}
 use lib.ListN.{length, getD}
 use Rattle.evc_def.specs.declared.EvcBlock.{EvcBlock}
@@ -12,7 +12,7 @@ use Rattle.evc_plane.specs.Planes.{sideOf, sampleAt, referenceOf}
 use Rattle.evc_plane.specs.Padding.{padCode, padAfter}
 use Rattle.evc_clip.specs.Clip.{clippedPlace}
 use Rattle.evc_mc.specs.declared.EvcList.{EvcList}
-use Rattle.evc_mc.specs.Block.{RefPicList, Component, typeOf, planeOf, offsetOf, widthOf, heightOf, average, predLen, mc2Code, mc2First}
+use Rattle.evc_mc.specs.Block.{RefPicList, Component, typeOf, planeOf, offsetOf, widthOf, heightOf, predLen, mc2Code, mc2First}
 use Rattle.evc_law.specs.General.{general}
 
 -- ---- a call and its premises
@@ -68,11 +68,14 @@ generalList b l p c x y =
     general (typeOf c) (referenceOf (typeOf c) (b .«pic_w») (b .«pic_h») (p c)) (place .x) (place .y) x y
 
 -- "With both lists in use the sample is (a + b + 1) >> 1, also where counts and vectors are equal."
+abbrev pub roundedAverage : ℕ → ℕ → ℕ
+roundedAverage a b = (a + b + 1) / 2
+
 abbrev pub generalSample : Call → Component → ℕ → ℕ → ℕ
 generalSample k c x y =
     let a = generalList (k .block) (k .l0 .list) (k .picture0) c x y in
     let b = generalList (k .block) (k .l1 .list) (k .picture1) c x y in
-    cond (k .l0 .list .used && k .l1 .list .used) (average a b) (cond (k .l0 .list .used) a b)
+    cond (k .l0 .list .used && k .l1 .list .used) (roundedAverage a b) (cond (k .l0 .list .used) a b)
 
 -- "each predicted sample of the first block, in all three planes, equals the general two-stage filter .. at the clipped place over a picture prolonged by its
 -- edge samples; with two references, the rounded average of both"
@@ -174,3 +177,8 @@ Exchange =
     (k : Call) (pred0 pred1 : List ℕ) → Premises k → Accepted k → predLen ≤ length pred0 → predLen ≤ length pred1 →
     Accepted (exchanged k pred0 pred1)
     × ((c : Component) (x y : ℕ) → x < widthOf (k .block) c → y < heightOf (k .block) c → sample (exchanged k pred0 pred1) c x y ≡ sample k c x y)
+
+-- ---- demand 3
+
+abbrev pub Demand3 : Type 0
+Demand3 = GeneralFilter × LeftRight × TopBottom × Exchange

@@ -1,2 +1,3 @@
 pub mod General
 pub mod Demand3
+pub mod Edges

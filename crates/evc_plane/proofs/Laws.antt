@@ -211,30 +211,54 @@ module _ (k : PlaneType) (W H : ℕ) (s : List ℕ) (done : padCode k W H s ≡ 
       let h = accepted 6 _ _ (omega arith) (g .1) in
       (f .0, ltb-false (length s) (planeLen k W H) (g .0), h .0)
 
-  -- every stored sample is at most 1023, so that no window of the padded plane is refused with 6
+  -- no sample of its picture is above 1023
+  pub picture-small : (i j : ℕ) → i < sideOf k W → j < sideOf k H → sampleAt k W s i j ≤ 1023
+  picture-small i j li lj =
+      let S = strideOf k W in
+      let e : padOf k * S + originOf k + j * S + i ≡ (padOf k + j) * S + (originOf k + i) = omega arith in
+      rw (sym e) (exceeds-none s (firstSample k W) S (sideOf k W) (sideOf k H) (accepts .2) j i lj li)
+
+  -- so neither is a stored sample, and no window of the padded plane is refused with 6
   pub stored-small : (x y : ℕ) → x < strideOf k W → y < rowsOf k H → storedAt k W (padded k W H s) x y ≤ 1023
   unfolding configOf
   stored-small x y lx ly =
       let a = accepts in
       let z = sizes k W H (a .0) in
-      let i = min (x - originOf k) (sideOf k W - 1) in
-      let j = min (y - padOf k) (sideOf k H - 1) in
-      let e : padOf k * strideOf k W + originOf k + j * strideOf k W + i ≡ (padOf k + j) * strideOf k W + (originOf k + i) = omega arith in
-      let n : sampleAt k W s i j ≤ 1023 = rw (sym e) (exceeds-none s (firstSample k W) (strideOf k W) (sideOf k W) (sideOf k H) (a .2) j i (omega arith) (omega arith)) in
-      omega (arith, padded-stored k W H (a .0) s (a .1) x y lx ly, n)
+      omega (arith, padded-stored k W H (a .0) s (a .1) x y lx ly, picture-small (min (x - originOf k) (sideOf k W - 1)) (min (y - padOf k) (sideOf k H - 1)) (omega arith) (omega arith))
+
+  -- nor a sample of the padded reference picture
+  pub reference-small : (i j : ℤ) → referenceOf k W H s i j ≤ 1023
+  unfolding configOf reference
+  reference-small i j =
+      let z = sizes k W H (accepts .0) in
+      picture-small (min (i ⁺) (sideOf k W - 1)) (min (j ⁺) (sideOf k H - 1)) (omega arith) (omega arith)
+
+  -- another picture of these sides is accepted where its buffer is long enough and its samples are small
+  module _ (t : List ℕ) (long : planeLen k W H ≤ length t) where
+    small-accepted : ((i j : ℕ) → i < sideOf k W → j < sideOf k H → sampleAt k W t i j ≤ 1023) → padCode k W H t ≡ 0
+    unfolding padCode
+    small-accepted h =
+        let S = strideOf k W in
+        passed _ _ _ (accepts .0)
+        ∙ passed _ _ _ (le-ltb (length t) (planeLen k W H) long)
+        ∙ passed _ _ _
+        (none-exceeds t (firstSample k W) S (sideOf k W) (sideOf k H) (λ y x ly lx.
+        let e : (padOf k + y) * S + (originOf k + x) ≡ padOf k * S + originOf k + y * S + x = omega arith in
+        rw (sym e) (h x y lx ly)))
+        ∙ none
+
+    -- the mirror of the picture
+    pub mirrored-accepted : (LeftRight k W H s t → padCode k W H t ≡ 0) × (TopBottom k W H s t → padCode k W H t ≡ 0)
+    mirrored-accepted = (
+      (λ m. small-accepted (λ i j li lj. rw (m i (sideOf k W - 1 - i) j (omega arith) lj) (picture-small (sideOf k W - 1 - i) j (omega arith) lj))),
+      (λ m. small-accepted (λ i j li lj. rw (m i j (sideOf k H - 1 - j) li (omega arith)) (picture-small i (sideOf k H - 1 - j) li (omega arith)))),
+    )
 
   again : padCode k W H (padded k W H s) ≡ 0
-  unfolding padCode configOf
   again =
       let a = accepts in
-      let z = sizes k W H (a .0) in
-      let S = strideOf k W in
-      passed _ _ _ (a .0) ∙ passed _ _ _ (le-ltb (length (padded k W H s)) (planeLen k W H) (omega (arith, padded-length k W H (a .0) s (a .1))))
-      ∙ passed _ _ _
-      (none-exceeds (padded k W H s) (firstSample k W) S (sideOf k W) (sideOf k H) (λ y x ly lx.
-      let e : (padOf k + y) * S + (originOf k + x) ≡ padOf k * S + originOf k + y * S + x = omega arith in
-      rw (sym e) (stored-small (originOf k + x) (padOf k + y) (omega arith) (omega arith))))
-      ∙ none
+      small-accepted (padded k W H s) (omega (arith, a .1, padded-length k W H (a .0) s (a .1)))
+      (λ i j li lj. rw (picture-kept k W H (a .0) s (a .1) i j li lj) (picture-small i j li lj))
 
   -- a plane that was padded is accepted again, and stays as it is
   pub pad-twice : (padCode k W H (padAfter k W H s) ≡ 0) × (padAfter k W H (padAfter k W H s) ≡ padAfter k W H s)

@@ -11,8 +11,8 @@ use lib.Dec.{ltb}
 use lib.ListN.{length, getD}
 use borrow.Author.Tests.{ltb-true, ltb-false}
 use Rattle.evc_int.specs.Lists.{withBlock}
-use Rattle.evc_int.proofs.Lists.{row-fits, length-withBlock, withBlock-in, withBlock-past}
-use Rattle.evc_plane.proofs.Rows.{withBlock-before, withBlock-beside, rows-ext}
+use Rattle.evc_int.proofs.Lists.{row-fits, length-withBlock, withBlock-in, withBlock-past, withBlock-before}
+use Rattle.evc_plane.proofs.Rows.{withBlock-beside, rows-ext}
 
 -- ---- the steps, as the code takes them
 

@@ -1,4 +1,4 @@
--- Rows of a plane replaced (`withBlock`): what stands before them, and beside them in other columns; equality row by row. Assumes nothing.
+-- Rows of a plane replaced (`withBlock`): what stands beside them in other columns; equality row by row. Assumes nothing.
 use Prim.Native.Nat.{ℕ, zero, suc, _+_, _*_, _/_, _%_, _<_, _≤_}
 use mathlib.Core.Bool.{Bool, true, false}
 use mathlib.Core.Path.{_≡_, refl, sym, ap, _∙_}
@@ -14,12 +14,6 @@ use Rattle.evc_int.specs.Lists.{withBlock}
 use Rattle.evc_int.proofs.Lists.{row-fits, withRow-out}
 
 module _ {X : Type 0} (e : X) where
-  pub withBlock-before : (l : List X) (at stride n h : ℕ) (f : ℕ → ℕ → X) (i : ℕ) → i < at → getD (withBlock l at stride n h f) i e ≡ getD l i e
-  unfolding withBlock
-  withBlock-before l at stride n zero f i b = refl
-  withBlock-before l at stride n (suc h) f i b =
-      withRow-out e (withBlock l at stride n h f) (at + h * stride) n (f h) i (inl (omega arith)) ∙ withBlock-before l at stride n h f i b
-
   -- column x of row y, where columns a .. a + n - 1 of some rows are replaced, and x is none of them
   pub withBlock-beside : (l : List X) (base stride a n h : ℕ) (f : ℕ → ℕ → X) (y x : ℕ) → x < stride → a + n ≤ stride → (x < a) ⊎ (a + n ≤ x) → getD (withBlock l (base + a) stride n h f) (base + y * stride + x) e ≡ getD l (base + y * stride + x) e
   unfolding withBlock

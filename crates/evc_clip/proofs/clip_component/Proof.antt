@@ -12,7 +12,7 @@ use Rattle.evc_int.proofs.Whole.{is-+, is-k*, is-eq, nat}
 use Rattle.evc_int.proofs.Expressions.{ !, _⊕_, _⊖_, _⊗_, solve, fact}
 use Rattle.evc_int.proofs.Machine.{signed, arg, fit}
 use Rattle.evc_def.specs.Blocks.{Allowed}
-use Rattle.evc_clip.specs.Clip.{clipComponent}
+use Rattle.evc_clip.specs.Clip.{margin, clipComponent}
 use Rattle.evc_clip.proofs.Laws.{placeOf, lastPlace, clipped-place, clipped-fits}
 use Rattle.evc_clip.proofs.clip_component.Statement.{statement}
 use Rattle.evc_clip.proofs.clip_component.Tie as tie
@@ -30,11 +30,11 @@ moved-requires c κs =
     fit (is-+ (is-eq (q .qpel .ensures) (is-k* 4 (is-eq (q .before .new .ensures) (nat (s .args .place))))) (arg (s .fits .mv))) (omega signed)
 
 -- the vector that leads from the block to the clipped place, over plain numbers
-vector : (W x w n : ℕ) (mv lo p q a m g : ℤ) → Allowed W x w → p ≡ pos x → a ≡ pos 4 *ℤ p → q ≡ pos n → n + w ≡ W + 64 → m ≡ pos 4 *ℤ q → lo ≡ − 256 → g ≡ clip3 lo m (a +ℤ mv) → g -ℤ a ≡ clipComponent W x w mv
+vector : (W x w n : ℕ) (mv lo p q a m g : ℤ) → Allowed W x w → p ≡ pos x → a ≡ pos 4 *ℤ p → q ≡ pos n → n + w ≡ W + margin → m ≡ pos 4 *ℤ q → lo ≡ − 256 → g ≡ clip3 lo m (a +ℤ mv) → g -ℤ a ≡ clipComponent W x w mv
 vector W x w n mv lo p q a m g ok ep ea eq en em el eg =
     let a-is : a ≡ pos 4 *ℤ pos x = ea ∙ ap (λ (z : ℤ). pos 4 *ℤ z) ep in
     let m-is : m ≡ lastPlace W w =
-    em ∙ ap (λ (z : ℤ). pos 4 *ℤ z) eq ∙ solve (! (pos 4) ⊗ ! (pos n)) (! (pos 4) ⊗ (! (pos W) ⊕ ! (pos 64) ⊖ ! (pos w))) (omega arith) in
+    em ∙ ap (λ (z : ℤ). pos 4 *ℤ z) eq ∙ solve (! (pos 4) ⊗ ! (pos n)) (! (pos 4) ⊗ (! (pos W) ⊕ ! (pos margin) ⊖ ! (pos w))) (omega arith) in
     let g-is : g ≡ placeOf x (clipComponent W x w mv) =
     eg ∙ ap (λ (y : ℤ). clip3 y m (a +ℤ mv)) el ∙ ap₂ (λ (y z : ℤ). clip3 (− 256) y (z +ℤ mv)) m-is a-is ∙ sym (clipped-place W x w mv (omega arith)) in
     ap₂ _-ℤ_ g-is a-is

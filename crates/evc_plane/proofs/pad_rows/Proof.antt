@@ -7,8 +7,7 @@ use native.Mathlib.Omega.{arith}
 use native.Mathlib.Nat.{le-refl}
 use lib.ListN.{length, getD}
 use Rattle.evc_int.specs.Lists.{withRow, withBlock}
-use Rattle.evc_int.proofs.Lists.{row-fits, withRow-ext, withBlock-past, block-step, block-done}
-use Rattle.evc_plane.proofs.Rows.{withBlock-before}
+use Rattle.evc_int.proofs.Lists.{row-fits, withRow-ext, withBlock-past, withBlock-before, block-step, block-done}
 use Rattle.evc_plane.proofs.pad_rows.Statement.{statement}
 use Rattle.evc_plane.proofs.pad_rows.Tie as tie
 
