@@ -6,10 +6,12 @@ ghost use Rattle.evc_util.specs.Direct.{getMvDir};
 ghost use Rattle.evc_util.specs.Candidates.{getMotion};
 ghost use Rattle.evc_plane.specs.Padding.{padCode, padAfter};
 ghost use Rattle.evc_interp.specs.Prediction.{mcPlaneCode, mcPlaneAfter};
+ghost use Rattle.evc_mc.specs.Block.{refPicList, mc2Code, mc2First, mc2Second};
 ghost use Rattle.evc_inter.specs.Kinds.{planeType};
 use evc_clip::EvcClipped;
 use evc_def::EvcBlock;
 use evc_def::EvcMv;
+use evc_mc::EvcList;
 use evc_plane::PlaneType;
 use evc_util::EvcAvail;
 use evc_util::EvcCandidates;
@@ -114,5 +116,29 @@ pub extern "C" fn evc_mc_plane(
         h,
         plane,
         pred,
+    )
+}
+
+// The prediction of a block from one or two lists.
+#[no_mangle]
+pub extern "C" fn evc_mc2(
+    block: EvcBlock,
+    list0: EvcList,
+    y0: &[u16],
+    u0: &[u16],
+    v0: &[u16],
+    list1: EvcList,
+    y1: &[u16],
+    u1: &[u16],
+    v1: &[u16],
+    pred0: &mut [u16],
+    pred1: &mut [u16],
+) -> u32
+    ensures { λ r. ⌜ r ≡ mc2Code block (refPicList list0 (now (y0 .entry)) (now (u0 .entry)) (now (v0 .entry))) (refPicList list1 (now (y1 .entry)) (now (u1 .entry)) (now (v1 .entry))) (now (pred0 .entry)) (now (pred1 .entry)) ⌝ }
+    ensures { λ _. ⌜ now (pred0 .exit) ≡ mc2First block (refPicList list0 (now (y0 .entry)) (now (u0 .entry)) (now (v0 .entry))) (refPicList list1 (now (y1 .entry)) (now (u1 .entry)) (now (v1 .entry))) (now (pred0 .entry)) (now (pred1 .entry)) ⌝ }
+    ensures { λ _. ⌜ now (pred1 .exit) ≡ mc2Second block (refPicList list0 (now (y0 .entry)) (now (u0 .entry)) (now (v0 .entry))) (refPicList list1 (now (y1 .entry)) (now (u1 .entry)) (now (v1 .entry))) (now (pred0 .entry)) (now (pred1 .entry)) ⌝ }
+{
+    evc_mc::evc_mc2(
+        block, list0, y0, u0, v0, list1, y1, u1, v1, pred0, pred1,
     )
 }
