@@ -1,3 +1,4 @@
+pub mod Bools
 pub mod Whole
 pub mod Expressions
 pub mod Division

@@ -15,6 +15,7 @@ use lib.Signed.{ltZ}
 use borrow.Author.Tests.{ltb-false}
 use Rattle.evc_int.specs.Whole.{−_, _⁺, _⁻, clip3}
 use Rattle.evc_int.specs.Lists.{withBlock}
+use Rattle.evc_int.proofs.Bools.{all-true, none-true}
 use Rattle.evc_int.proofs.Whole.{Tested, under, not-under}
 use Rattle.evc_int.proofs.Expressions.{ !, _⊕_, neg, part⁺, tested-ex}
 use Rattle.evc_int.proofs.Division.{modulo-lt}
@@ -32,16 +33,6 @@ use Rattle.evc_filter.specs.Filter.{phases, lead, reach, interpolated, interpol
 use Rattle.evc_filter.specs.Code.{isRowWidth}
 use Rattle.evc_interp.specs.Prediction.{phaseOf, placeOf, isFiltered, startOf, windowOf, sampleBy, predicted, isSide, windowExceeds, mcPlaneCode}
 use Rattle.evc_interp.specs.Code.{Within}
-
-pub all-true : (a b : Bool) → not (a && b) ≡ false → (a ≡ true) × (b ≡ true)
-all-true true true e = (refl, refl)
-all-true true false e = absurd (subst T e tt)
-all-true false b e = absurd (subst T e tt)
-
-pub none-true : (a b : Bool) → (a || b) ≡ false → (a ≡ false) × (b ≡ false)
-none-true true b e = absurd (subst T e tt)
-none-true false true e = absurd (subst T e tt)
-none-true false false e = (refl, refl)
 
 -- ---- a block's side
 
@@ -197,18 +188,7 @@ unfolding predicted
 path-gives k W H ori gmv w h s d across down at S dx dy ea ed e f ex ey =
     withBlock-ext d 0 w w h _ _ (λ y x ly lx. rw (e, f, ex, ey) (ap₂ (λ (a b : Bool). sampleBy k a b (phaseOf k (gmv .x)) (phaseOf k (gmv .y)) s (windowOf k W H a b gmv + y * strideOf k W + x) (strideOf k W)) ea ed))
 
--- ---- two bits, by their conjunction and their disjunction
-
-pub both-true : (a b : Bool) → (a && b) ≡ true → (a ≡ true) × (b ≡ true)
-both-true true true e = (refl, refl)
-both-true true false e = absurd (subst T (sym e) tt)
-both-true false b e = absurd (subst T (sym e) tt)
-
-pub one-true : (a b : Bool) → (a && b) ≡ false → (a || b) ≡ true → b ≡ not a
-one-true true true e f = absurd (subst T e tt)
-one-true true false e f = refl
-one-true false true e f = refl
-one-true false false e f = absurd (subst T (sym f) tt)
+-- ---- one direction is one of the paths
 
 pub one-path : (k : PlaneType) (a : Bool) (dx dy r : ℕ) (s d : List ℕ) (w h at S : ℕ) → r ≡ cond a dx dy → withBlock d 0 w w h (λ (y x : ℕ). interpolated k r s (at + y * S + x) (cond a 1 S)) ≡ withBlock d 0 w w h (λ (y x : ℕ). sampleBy k a (not a) dx dy s (at + y * S + x) S)
 unfolding sampleBy

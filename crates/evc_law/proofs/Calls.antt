@@ -22,7 +22,7 @@ use Rattle.evc_plane.proofs.Laws.{accepts, after, padded-length, reference-smal
 use Rattle.evc_plane.proofs.Samples.{none-exceeds}
 use Rattle.evc_filter.specs.Filter.{reach}
 use Rattle.evc_interp.specs.Prediction.{windowOf, windowExceeds}
-use Rattle.evc_interp.proofs.Windows.{none-true}
+use Rattle.evc_int.proofs.Bools.{none-true, and-false-right}
 use Rattle.evc_mc.specs.Block.{RefPicList, Component, luma, cb, cr, typeOf, planeOf, offsetOf, widthOf, heightOf, withComponent, withSamples, listSample, predLen, listShort, pocExceeds, componentExceeds, listExceeds, mc2Code}
 use Rattle.evc_law.specs.Demand3.{Picture, Made, generalList}
 use Rattle.evc_law.proofs.Paths.{within-pad, window-reads, paths}
@@ -73,10 +73,6 @@ if-used : (u t : Bool) → (u ≡ true → t ≡ false) → u && t ≡ false
 if-used true t h = h refl
 if-used false t h = refl
 
-used-if : (u t : Bool) → u && t ≡ false → u ≡ true → t ≡ false
-used-if true t e h = e
-used-if false t e h = absurd (subst T (sym h) tt)
-
 no-or : (s t : Bool) → s ≡ false → t ≡ false → s || t ≡ false
 no-or s t e f = rw (e, f)
 
@@ -123,8 +119,8 @@ module _ (b : EvcBlock) (l m : RefPicList) (pred0 pred1 : List ℕ) where
       record {
         block = f .0;
         some = not-false (l .list .used || m .list .used) (c3 .0);
-        count0 = λ u. ltb-false _ _ (used-if (l .list .used) _ (n5 .0) u);
-        count1 = λ u. ltb-false _ _ (used-if (m .list .used) _ (n5 .1) u);
+        count0 = λ u. ltb-false _ _ (and-false-right (l .list .used) _ (n5 .0) u);
+        count1 = λ u. ltb-false _ _ (and-false-right (m .list .used) _ (n5 .1) u);
         long0 = ltb-false _ _ (n4′ .1);
         long1 = ltb-false _ _ (n4 .1);
       }

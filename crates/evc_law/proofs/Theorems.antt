@@ -9,6 +9,7 @@ use lib.IntN.{ℤ, pos, _+ℤ_, _*ℤ_}
 use lib.ListN.{getD}
 use borrow.Author.Tests.{eqb-true}
 use Rattle.evc_int.specs.Whole.{eqZ}
+use Rattle.evc_int.proofs.Bools.{both-true}
 use Rattle.evc_int.proofs.Whole.{eqZ-true}
 use Rattle.evc_def.specs.Blocks.{Allowed, maxPoc}
 use Rattle.evc_def.specs.Codes.{firstOf, blockChecks}
@@ -40,10 +41,6 @@ sample-is k done c x y lx ly =
     ∙ block-holds b (o .0 .side-high) (o .1 .side-high) (firstSample b (k .l0) (k .l1)) (k .pred0) (a .long0) c x y lx ly
 
 -- ---- equal motion over equal pictures
-
-both-true : (a b : Bool) → a && b ≡ true → (a ≡ true) × (b ≡ true)
-both-true true b e = (refl, e)
-both-true false b e = absurd (subst T (sym e) tt)
 
 pub record SameMotion (b : EvcBlock) (l m : EvcList) : Type 0 where
   pub count : l .poc ≡ m .poc

@@ -9,6 +9,7 @@ use lib.Dec.{T, ltb, eqb, eqb→eq}
 use lib.ListN.{length}
 use borrow.Author.Tests.{ltb-false, le-ltb, not-false}
 use mathlib.Core.Logic.{⊎-elim}
+use Rattle.evc_int.proofs.Bools.{both-true, all-true, none-true, and-false-right}
 use Rattle.evc_def.specs.Blocks.{isBlockSide, isInside, badPicture, badBlock}
 use Rattle.evc_def.specs.Codes.{firstOf, blockChecks}
 use Rattle.evc_def.specs.declared.EvcBlock.{EvcBlock}
@@ -20,14 +21,8 @@ use Rattle.evc_plane.specs.declared.PlaneType.{PlaneType}
 use Rattle.evc_plane.specs.declared.PlaneType.the-variants.{Y, UV}
 use Rattle.evc_clip.specs.Clip.{clippedPlace}
 use Rattle.evc_interp.specs.Prediction.{isSide, windowExceeds, mcPlaneCode}
-use Rattle.evc_interp.proofs.Windows.{all-true, none-true}
 use Rattle.evc_mc.specs.Block.{RefPicList, Component, luma, cb, cr, typeOf, planeOf, widthOf, heightOf, componentExceeds, listShort, listExceeds, predLen, mc2Code}
 use Rattle.evc_mc.specs.Steps.{Examined, ListExamined}
-
-pub and-true : (a b : Bool) → (a && b) ≡ true → (a ≡ true) × (b ≡ true)
-and-true true true e = (refl, refl)
-and-true true false e = absurd (subst T (sym e) tt)
-and-true false b e = absurd (subst T (sym e) tt)
 
 -- ---- the block
 
@@ -44,8 +39,8 @@ sides b e =
     let f = accepted 1 _ _ (omega arith) e in
     let g = accepted 2 _ _ (omega arith) (f .1) in
     let p = all-true (isBlockSide (b .w) && isBlockSide (b .h) && isInside (b .«pic_w») (b .x) (b .w)) (isInside (b .«pic_h») (b .y) (b .h)) (g .0) in
-    let q = and-true (isBlockSide (b .w) && isBlockSide (b .h)) (isInside (b .«pic_w») (b .x) (b .w)) (p .0) in
-    let r = and-true (isBlockSide (b .w)) (isBlockSide (b .h)) (q .0) in
+    let q = both-true (isBlockSide (b .w) && isBlockSide (b .h)) (isInside (b .«pic_w») (b .x) (b .w)) (p .0) in
+    let r = both-true (isBlockSide (b .w)) (isBlockSide (b .h)) (q .0) in
     let k = allowed-block b e in
     record { picture = f .0; w-side = r .0; h-side = r .1; w-high = k .0 .side-high; h-high = k .1 .side-high }
 
@@ -87,17 +82,13 @@ plane-accepted b t gmv s d e x r =
 
 -- ---- a list
 
-pub unused : (p q : Bool) → (p && q) ≡ false → p ≡ true → q ≡ false
-unused true q e u = e
-unused false q e u = absurd (subst T (sym u) tt)
-
 abbrev planeShort : EvcBlock → PlaneType → List ℕ → Bool
 planeShort b t s = ltb (length s) (planeLen t (b .«pic_w») (b .«pic_h»))
 
 module _ (b : EvcBlock) (l : RefPicList) (u : l .list .used ≡ true) where
   pub list-long : listShort b l ≡ false → (c : Component) → planeLen (typeOf c) (b .«pic_w») (b .«pic_h») ≤ length (planeOf c l)
   unfolding listShort
-  list-long e = go (unused (l .list .used) _ e u)
+  list-long e = go (and-false-right (l .list .used) _ e u)
     where
       go : (planeShort b Y (l .y) || planeShort b UV (l .u) || planeShort b UV (l .v)) ≡ false → (c : Component) → planeLen (typeOf c) (b .«pic_w») (b .«pic_h») ≤ length (planeOf c l)
       go e luma = ltb-false _ _ (none-true _ (planeShort b UV (l .u)) (none-true _ (planeShort b UV (l .v)) e .0) .0)
@@ -106,7 +97,7 @@ module _ (b : EvcBlock) (l : RefPicList) (u : l .list .used ≡ true) where
 
   pub list-small : listExceeds b l ≡ false → (c : Component) → componentExceeds b l c ≡ false
   unfolding listExceeds
-  list-small e = go (unused (l .list .used) _ e u)
+  list-small e = go (and-false-right (l .list .used) _ e u)
     where
       go : (componentExceeds b l luma || componentExceeds b l cb || componentExceeds b l cr) ≡ false → (c : Component) → componentExceeds b l c ≡ false
       go e luma = none-true _ (componentExceeds b l cb) (none-true _ (componentExceeds b l cr) e .0) .0

@@ -9,6 +9,7 @@ use lib.IntN.{ℤ, pos, negsuc, _+ℤ_}
 use mir.Syntax.{w16}
 use mir.Val.{SFits, ofZ}
 use Rattle.evc_int.specs.Whole.{eqZ}
+use Rattle.evc_int.proofs.Whole.{eqZ-true}
 use Rattle.evc_int.proofs.Expressions.{ !, _⊕_, solve, fact}
 use Rattle.evc_def.specs.declared.EvcBlock.{EvcBlock}
 use Rattle.evc_def.specs.declared.EvcMv.{EvcMv}
@@ -30,12 +31,6 @@ bits-eq (negsuc a) (negsuc b) f g =
     let l : b < 32768 = g .sfits in
     same-answer (eqb (65536 - suc a) (65536 - suc b)) (eqb a b) (λ e. let h = eqb-true (65536 - suc a) (65536 - suc b) e in eq-eqb a b (omega arith)) (λ e. let h = eqb-true a b e in eq-eqb (65536 - suc a) (65536 - suc b) (omega arith))
 
-eqZ-eq : (a b : ℤ) → eqZ a b ≡ true → a ≡ b
-eqZ-eq (pos a) (pos b) e = ap pos (eqb-true a b e)
-eqZ-eq (pos a) (negsuc b) e = absurd (subst T (sym e) tt)
-eqZ-eq (negsuc a) (pos b) e = absurd (subst T (sym e) tt)
-eqZ-eq (negsuc a) (negsuc b) e = ap negsuc (eqb-true a b e)
-
 eqZ-refl : (a : ℤ) → eqZ a a ≡ true
 eqZ-refl (pos a) = eq-eqb a a refl
 eqZ-refl (negsuc a) = eq-eqb a a refl
@@ -46,8 +41,8 @@ eq-eqZ a b e = subst (λ (z : ℤ). eqZ a z ≡ true) e (eqZ-refl a)
 moved-eq : (x a b : ℤ) → eqZ (x +ℤ a) (x +ℤ b) ≡ eqZ a b
 moved-eq x a b =
     same-answer (eqZ (x +ℤ a) (x +ℤ b)) (eqZ a b)
-    (λ e. eq-eqZ a b (solve (! a) (! b) (omega (arith, fact (! x ⊕ ! a) (! x ⊕ ! b) (eqZ-eq (x +ℤ a) (x +ℤ b) e)))))
-    (λ e. eq-eqZ (x +ℤ a) (x +ℤ b) (ap (λ (z : ℤ). x +ℤ z) (eqZ-eq a b e)))
+    (λ e. eq-eqZ a b (solve (! a) (! b) (omega (arith, fact (! x ⊕ ! a) (! x ⊕ ! b) (eqZ-true (x +ℤ a) (x +ℤ b) e)))))
+    (λ e. eq-eqZ (x +ℤ a) (x +ℤ b) (ap (λ (z : ℤ). x +ℤ z) (eqZ-true a b e)))
 
 pub same-motion-is : (b : EvcBlock) (l m : EvcList) (g h : EvcMv) (r : Bool) → g ≡ clippedPlace b (l .mv) → h ≡ clippedPlace b (m .mv)
     → r ≡ (eqb (l .poc) (m .poc) && eqZ (g .x) (h .x) && eqZ (g .y) (h .y)) → r ≡ sameMotion b l m

@@ -12,6 +12,7 @@ use lib.Bits.{bitOr, bitAnd, or-lt, or-add-and, and-le-l, and-le-r}
 use lib.Dec.{T, ltb}
 use lib.ListN.{getD}
 use borrow.Author.Tests.{ltb-true, ltb-false, lt-ltb, le-ltb}
+use Rattle.evc_int.proofs.Bools.{none-true}
 use Rattle.evc_plane.specs.Samples.{tooLarge, rowExceeds, exceeds}
 
 pub or-too-large : (x y : ℕ) → tooLarge (bitOr x y) ≡ tooLarge x || tooLarge y
@@ -31,10 +32,6 @@ or-too-large x y = go (ltb 1023 x) (ltb 1023 y) refl refl
 
 -- ---- what the answer says of each sample
 
-pub or-none : (a b : Bool) → a || b ≡ false → (a ≡ false) × (b ≡ false)
-or-none true b e = (e, absurd (subst T e tt))
-or-none false b e = (refl, e)
-
 small : (x : ℕ) → tooLarge x ≡ false → x ≤ 1023
 unfolding tooLarge
 small x e = ltb-false 1023 x e
@@ -43,7 +40,7 @@ row-small : (s : List ℕ) (at n : ℕ) → rowExceeds s at n ≡ false → (x :
 unfolding rowExceeds
 row-small s at zero e x lt = absurd (not-suc-le-zero lt)
 row-small s at (suc n) e x lt =
-    let h = or-none (rowExceeds s at n) (tooLarge (getD s (at + n) 0)) e in
+    let h = none-true (rowExceeds s at n) (tooLarge (getD s (at + n) 0)) e in
     ⊎-elim (λ (q : x ≡ n). rw q (small (getD s (at + n) 0) (h .1))) (λ (q : x < n). row-small s at n (h .0) x q) (eq-or-lt-of-le (le-of-suc-le-suc lt))
 
 -- none of the samples is above 1023 where the answer is false ..
@@ -51,7 +48,7 @@ pub exceeds-none : (s : List ℕ) (at stride n h : ℕ) → exceeds s at stride 
 unfolding exceeds
 exceeds-none s at stride n zero e y x ly lx = absurd (not-suc-le-zero ly)
 exceeds-none s at stride n (suc h) e y x ly lx =
-    let b = or-none (exceeds s at stride n h) (rowExceeds s (at + h * stride) n) e in
+    let b = none-true (exceeds s at stride n h) (rowExceeds s (at + h * stride) n) e in
     ⊎-elim (λ (q : y ≡ h). rw q (row-small s (at + h * stride) n (b .1) x lx)) (λ (q : y < h). exceeds-none s at stride n h (b .0) y x q lx) (eq-or-lt-of-le (le-of-suc-le-suc ly))
 
 -- .. and only there
@@ -93,7 +90,7 @@ module _ (s : List ℕ) (at : ℕ) where
     where
       forth : rowExceeds s at j || rowExceeds s (at + n - k) k ≡ false → rowExceeds s at n ≡ false
       forth e =
-          let h = or-none (rowExceeds s at j) (rowExceeds s (at + n - k) k) e in
+          let h = none-true (rowExceeds s at j) (rowExceeds s (at + n - k) k) e in
           row-all-small s at n (λ x lx. either x (ltb x j) refl lx (h .0) (h .1))
         where
           either : (x : ℕ) (t : Bool) → ltb x j ≡ t → x < n → rowExceeds s at j ≡ false → rowExceeds s (at + n - k) k ≡ false → getD s (at + x) 0 ≤ 1023
@@ -127,7 +124,7 @@ module _ (s : List ℕ) (at : ℕ) where
       where
         forth : exceeds s (at + n - k) stride k h || exceeds s at stride j h ≡ false → exceeds s at stride n h ≡ false
         forth e =
-            let g = or-none (exceeds s (at + n - k) stride k h) (exceeds s at stride j h) e in
+            let g = none-true (exceeds s (at + n - k) stride k h) (exceeds s at stride j h) e in
             none-exceeds s at stride n h (λ y x ly lx. either y x (ltb x j) refl ly lx (g .1) (g .0))
           where
             either : (y x : ℕ) (t : Bool) → ltb x j ≡ t → y < h → x < n → exceeds s at stride j h ≡ false → exceeds s (at + n - k) stride k h ≡ false → getD s (at + y * stride + x) 0 ≤ 1023

@@ -8,33 +8,25 @@ use native.Mathlib.Omega.{arith}
 use borrow.Author.Tests.{ltb-false, eqb-false}
 use lib.Dec.{T, ltb, eqb}
 use lib.IntN.{ℤ}
+use Rattle.evc_int.proofs.Bools.{none-true, and-false-right}
 use Rattle.evc_def.specs.Blocks.{Allowed}
 use Rattle.evc_def.specs.Tables.{isBit}
 use Rattle.evc_def.specs.declared.EvcBlock.{EvcBlock}
 use Rattle.evc_util.specs.Units.{unitCount, wScu, xScu, yScu, scup, mvLen}
 use Rattle.evc_util.specs.Candidates.{flagOutside, mapsShort, neighbour}
 
-pub or-false : (a b : Bool) → (a || b) ≡ false → (a ≡ false) × (b ≡ false)
-or-false true b e = absurd (subst T e tt)
-or-false false b e = (refl, e)
-
--- of two that do not both hold, the second where the first does
-pub and-false-right : (a b : Bool) → (a && b) ≡ false → a ≡ true → b ≡ false
-and-false-right true b e t = e
-and-false-right false b e t = absurd (subst T (sym t) tt)
-
 module _ (b : EvcBlock) (map : ℕ) (has : Bool) (col : ℕ) (e : mapsShort b map has col ≡ false) (n : ℕ) (below : n < unitCount b) where
   pub map-reaches : mvLen * n + mvLen ≤ map
   unfolding mapsShort
   map-reaches =
-      let f = or-false (ltb map (mvLen * unitCount b)) (has && ltb col (mvLen * unitCount b)) e .0 in
+      let f = none-true (ltb map (mvLen * unitCount b)) (has && ltb col (mvLen * unitCount b)) e .0 in
       let l = ltb-false map (mvLen * unitCount b) f in
       omega arith
 
   pub col-reaches : has ≡ true → mvLen * n + mvLen ≤ col
   unfolding mapsShort
   col-reaches t =
-      let f = or-false (ltb map (mvLen * unitCount b)) (has && ltb col (mvLen * unitCount b)) e .1 in
+      let f = none-true (ltb map (mvLen * unitCount b)) (has && ltb col (mvLen * unitCount b)) e .1 in
       let l = ltb-false col (mvLen * unitCount b) (and-false-right has (ltb col (mvLen * unitCount b)) f t) in
       omega arith
 
@@ -50,8 +42,8 @@ module _ (b : EvcBlock) (avail : ℕ) (p : Allowed (b .«pic_w») (b .x) (b .w))
   cases : ((isBit 1 avail && eqb (b .x) 0) ≡ false) × ((isBit 0 avail && eqb (b .y) 0) ≡ false) × ((isBit 6 avail && (eqb (b .y) 0 || eqb (b .x + b .w) (b .«pic_w»))) ≡ false)
   unfolding flagOutside
   cases =
-      let f = or-false ((isBit 1 avail && eqb (b .x) 0) || (isBit 0 avail && eqb (b .y) 0)) (isBit 6 avail && (eqb (b .y) 0 || eqb (b .x + b .w) (b .«pic_w»))) e in
-      let g = or-false (isBit 1 avail && eqb (b .x) 0) (isBit 0 avail && eqb (b .y) 0) (f .0) in
+      let f = none-true ((isBit 1 avail && eqb (b .x) 0) || (isBit 0 avail && eqb (b .y) 0)) (isBit 6 avail && (eqb (b .y) 0 || eqb (b .x + b .w) (b .«pic_w»))) e in
+      let g = none-true (isBit 1 avail && eqb (b .x) 0) (isBit 0 avail && eqb (b .y) 0) (f .0) in
       (g .0, g .1, f .1)
 
   pub left-before : isBit 1 avail ≡ true → 1 ≤ scup b
@@ -69,7 +61,7 @@ module _ (b : EvcBlock) (avail : ℕ) (p : Allowed (b .«pic_w») (b .x) (b .w))
 
   pub up-right-before : isBit 6 avail ≡ true → wScu b ≤ scup b
   up-right-before t =
-      row-before (or-false (eqb (b .y) 0) (eqb (b .x + b .w) (b .«pic_w»)) (and-false-right (isBit 6 avail) (eqb (b .y) 0 || eqb (b .x + b .w) (b .«pic_w»)) (cases .2) t) .0)
+      row-before (none-true (eqb (b .y) 0) (eqb (b .x + b .w) (b .«pic_w»)) (and-false-right (isBit 6 avail) (eqb (b .y) 0 || eqb (b .x + b .w) (b .«pic_w»)) (cases .2) t) .0)
 
 -- the unit matters only where the flag is set
 pub same-neighbour : (map : List ℤ) (lidx : ℕ) (flagged : Bool) (m n : ℕ) → (flagged ≡ true → m ≡ n) → neighbour map lidx flagged m ≡ neighbour map lidx flagged n

@@ -15,7 +15,8 @@ use Rattle.evc_def.proofs.Codes.{refused, passed, none}
 use Rattle.evc_plane.specs.declared.PlaneType.{PlaneType}
 use Rattle.evc_plane.specs.Planes.{planeLen}
 use Rattle.evc_interp.specs.Prediction.{isSide, windowExceeds, mcPlaneCode}
-use Rattle.evc_interp.proofs.Windows.{side, all-true, none-true}
+use Rattle.evc_int.proofs.Bools.{all-true, none-true}
+use Rattle.evc_interp.proofs.Windows.{side}
 use Rattle.evc_interp.proofs.mc_plane_code.Statement.{statement}
 use Rattle.evc_interp.proofs.mc_plane_code.Tie as tie
 

@@ -15,7 +15,8 @@ use Rattle.evc_plane.specs.Planes.{strideOf}
 use Rattle.evc_filter.specs.Filter.{phases, reach}
 use Rattle.evc_interp.specs.Prediction.{phaseOf, isFiltered, windowOf, sampleBy, predicted}
 use Rattle.evc_interp.specs.Code.{Within}
-use Rattle.evc_interp.proofs.Windows.{Accepted, accepts, stride-is, stride-small, phase-small, path-asks, path-gives, both-true, one-true, none-true, one-path}
+use Rattle.evc_int.proofs.Bools.{both-true, one-true, none-true}
+use Rattle.evc_interp.proofs.Windows.{Accepted, accepts, stride-is, stride-small, phase-small, path-asks, path-gives, one-path}
 use Rattle.evc_interp.proofs.predict.Statement.{statement}
 use Rattle.evc_interp.proofs.predict.Tie as tie
 

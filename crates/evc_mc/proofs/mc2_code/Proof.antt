@@ -9,7 +9,7 @@ use lib.ListN.{length}
 use Rattle.evc_def.specs.Codes.{firstOf, blockChecks}
 use Rattle.evc_def.specs.declared.EvcBlock.{EvcBlock}
 use Rattle.evc_def.proofs.Codes.{refused, passed, none, stops, goes-on}
-use Rattle.evc_interp.proofs.Windows.{none-true}
+use Rattle.evc_int.proofs.Bools.{none-true}
 use Rattle.evc_mc.specs.Block.{RefPicList, refPicList, listShort, pocExceeds, listExceeds, predLen, mc2Code}
 use Rattle.evc_mc.proofs.Checks.{sides}
 use Rattle.evc_mc.proofs.mc2_code.Statement.{statement}

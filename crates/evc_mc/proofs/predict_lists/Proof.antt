@@ -4,7 +4,8 @@ use mathlib.Core.Path.{_≡_, sym, _∙_}
 use native.Mathlib.Omega.{arith}
 use borrow.Author.Needs.{needs}
 use Rattle.evc_mc.specs.Block.{refPicList, sameMotion}
-use Rattle.evc_mc.proofs.Checks.{Accepted, accepts, and-true, sides, list-examined, unused}
+use Rattle.evc_int.proofs.Bools.{both-true, and-false-right}
+use Rattle.evc_mc.proofs.Checks.{Accepted, accepts, sides, list-examined}
 use Rattle.evc_mc.proofs.Motion.{same-motion-is}
 use Rattle.evc_mc.proofs.Predictions.{not-same, same, stands, single, both-small, averaged}
 use Rattle.evc_mc.proofs.predict_lists.Statement.{statement}
@@ -37,9 +38,9 @@ returns : tie.Need-returns
 returns c =
     let k = c .before in
     let a = start k .args in
-    let t = and-true (a .list0 .used && a .list1 .used) (k .same-motion .result) (c .if1 .taken) in
+    let t = both-true (a .list0 .used && a .list1 .used) (k .same-motion .result) (c .if1 .taken) in
     let p = first k .predict-list .ensures in
-    stands (a .b) (refPicList (a .list0) (a .y0 .now) (a .u0 .now) (a .v0 .now)) (refPicList (a .list1) (a .y1 .now) (a .u1 .now) (a .v1 .now)) (a .pred0 .now) (a .pred1 .now) _ _ (p .0) (p .1) (and-true _ _ (t .0) .0) (same (a .b) (refPicList (a .list0) (a .y0 .now) (a .u0 .now) (a .v0 .now)) (refPicList (a .list1) (a .y1 .now) (a .u1 .now) (a .v1 .now)) (sym (motion k) ∙ t .1))
+    stands (a .b) (refPicList (a .list0) (a .y0 .now) (a .u0 .now) (a .v0 .now)) (refPicList (a .list1) (a .y1 .now) (a .u1 .now) (a .v1 .now)) (a .pred0 .now) (a .pred1 .now) _ _ (p .0) (p .1) (both-true _ _ (t .0) .0) (same (a .b) (refPicList (a .list0) (a .y0 .now) (a .u0 .now) (a .v0 .now)) (refPicList (a .list1) (a .y1 .now) (a .u1 .now) (a .v1 .now)) (sym (motion k) ∙ t .1))
 
 predict-list-requires-2 : tie.Need-predict-list-requires-2
 predict-list-requires-2 c κs =
@@ -59,7 +60,7 @@ average-block-requires c κs =
     let g = good (start k) in
     let x = first k .predict-list in
     let y = r .predict-list2 in
-    let t = and-true (a .list0 .used) (a .list1 .used) (c .before .before .if2 .taken) in
+    let t = both-true (a .list0 .used) (a .list1 .used) (c .before .before .if2 .taken) in
     let n = x .kept .1 .1 .1 .1 .1 .1 in
     let m = y .kept .1 .1 .1 .1 .1 .1 in (
       (g .block, omega (arith, n .0, m .0, g .p-long), omega (arith, n .1 .0, m .1 .0, g .q-long)),
@@ -76,8 +77,8 @@ returns-2 c =
     let x = first k .predict-list in
     let y = r .predict-list2 in
     let both = c .before .before .before .before .before .if2 .taken in
-    let t = and-true (a .list0 .used) (a .list1 .used) both in
-    let differs = sym (motion k) ∙ unused (a .list0 .used && a .list1 .used) _ (r .before .before .before .if1 .left) both in
+    let t = both-true (a .list0 .used) (a .list1 .used) both in
+    let differs = sym (motion k) ∙ and-false-right (a .list0 .used && a .list1 .used) _ (r .before .before .before .if1 .left) both in
     averaged (a .b) (refPicList (a .list0) (a .y0 .now) (a .u0 .now) (a .v0 .now)) (refPicList (a .list1) (a .y1 .now) (a .u1 .now) (a .v1 .now)) (a .pred0 .now) (a .pred1 .now) _ _ (x .ensures .0) (x .ensures .1) _ _ (y .ensures .0) (y .ensures .1) (t .0) (t .1)
     (sides (a .b) (g .block)) (g .p-long) (g .q-long) _ (not-same (a .b) (refPicList (a .list0) (a .y0 .now) (a .u0 .now) (a .v0 .now)) (refPicList (a .list1) (a .y1 .now) (a .u1 .now) (a .v1 .now)) both differs) (c .before .before .average-block .ensures)
 

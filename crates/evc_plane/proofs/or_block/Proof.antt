@@ -6,15 +6,15 @@ use native.Mathlib.Omega.{arith}
 use borrow.Author.Needs.{needs}
 use borrow.Author.Tests.{ltb-false}
 use lib.Dec.{ltb}
-use Rattle.evc_plane.proofs.Samples.{or-none}
+use Rattle.evc_int.proofs.Bools.{none-true}
 use Rattle.evc_plane.proofs.or_block.Statement.{statement}
 use Rattle.evc_plane.proofs.or_block.Tie as tie
 
 -- behind the first test
 narrow : (n h : ℕ) → (ltb n 4 || ltb 80 n) || ltb h 1 ≡ false → (4 ≤ n) × (n ≤ 80) × (0 < h)
 narrow n h e =
-    let a = or-none (ltb n 4 || ltb 80 n) (ltb h 1) e in
-    let b = or-none (ltb n 4) (ltb 80 n) (a .0) in
+    let a = none-true (ltb n 4 || ltb 80 n) (ltb h 1) e in
+    let b = none-true (ltb n 4) (ltb 80 n) (a .0) in
     (ltb-false n 4 (b .0), ltb-false 80 n (b .1), ltb-false h 1 (a .1))
 
 pub or-block-spec : {M : Type 1} → statement M

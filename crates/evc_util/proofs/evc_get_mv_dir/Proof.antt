@@ -20,16 +20,16 @@ use Rattle.evc_def.specs.Blocks.{maxPoc}
 use Rattle.evc_util.specs.Direct.{pocTooLarge, directChecks, collocated, directVectors, getMvDir}
 use Rattle.evc_util.specs.declared.EvcDirect.{EvcDirect}
 use Rattle.evc_util.specs.declared.Pocs.{Pocs}
-use Rattle.evc_util.proofs.Reach.{or-false, and-false-right}
+use Rattle.evc_int.proofs.Bools.{none-true, and-false-right}
 use Rattle.evc_util.proofs.evc_get_mv_dir.Statement.{statement}
 use Rattle.evc_util.proofs.evc_get_mv_dir.Tie as tie
 
 counts : (p : Pocs) → pocTooLarge p ≡ false → (p .poc ≤ 32767) × (p .poc0 ≤ 32767) × (p .poc1 ≤ 32767) × (p .«list_poc0» ≤ 32767)
 unfolding pocTooLarge
 counts p e =
-    let f = or-false (ltb maxPoc (p .poc) || ltb maxPoc (p .poc0) || ltb maxPoc (p .poc1)) (ltb maxPoc (p .«list_poc0»)) e in
-    let g = or-false (ltb maxPoc (p .poc) || ltb maxPoc (p .poc0)) (ltb maxPoc (p .poc1)) (f .0) in
-    let h = or-false (ltb maxPoc (p .poc)) (ltb maxPoc (p .poc0)) (g .0) in
+    let f = none-true (ltb maxPoc (p .poc) || ltb maxPoc (p .poc0) || ltb maxPoc (p .poc1)) (ltb maxPoc (p .«list_poc0»)) e in
+    let g = none-true (ltb maxPoc (p .poc) || ltb maxPoc (p .poc0)) (ltb maxPoc (p .poc1)) (f .0) in
+    let h = none-true (ltb maxPoc (p .poc)) (ltb maxPoc (p .poc0)) (g .0) in
     (ltb-false _ _ (h .0), ltb-false _ _ (h .1), ltb-false _ _ (g .1), ltb-false _ _ (f .1))
 
 module _ (b : EvcBlock) (p : Pocs) (has : Bool) (col : List ℤ) where
