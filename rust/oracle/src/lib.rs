@@ -45,6 +45,7 @@ mod util {
 }
 
 pub mod cases;
+pub mod mc2_lists;
 pub mod mc_lists;
 pub mod model;
 pub mod util_lists;

@@ -185,6 +185,7 @@ fn sizes() {
 #[test]
 fn largest_sides() {
     let mut rng = Rng(33);
+    let mut calls = 0;
     for pic in [[8128, 4], [4, 8128]] {
         let planes = [false, true].map(|is_extreme| Planes::new(pic, is_extreme, &mut rng));
         let old = old_blocks(&mut rng);
@@ -197,8 +198,10 @@ fn largest_sides() {
                 poc: random_pocs(&mut rng),
             };
             assert_call(&c, planes.each_ref(), &old);
+            calls += 1;
         }
     }
+    assert_eq!(calls, 2 * 49);
 }
 
 /// "If both lists are in use with equal counts and equal clipped vectors, list 0 alone stands": equal
