@@ -287,7 +287,7 @@ fn is_side(t: PlaneType, n: u32) -> bool
 }
 
 // On every path the window of both directions is examined.
-fn window_exceeds(
+pub fn window_exceeds(
     t: PlaneType,
     pic_w: u32,
     pic_h: u32,
@@ -338,7 +338,7 @@ fn mc_plane_code(
     0
 }
 
-fn predict(
+pub fn predict(
     t: PlaneType,
     pic_w: u32,
     pic_h: u32,

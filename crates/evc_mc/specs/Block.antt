@@ -26,6 +26,9 @@ pub record RefPicList : Type 0 where
   pub u : List ℕ
   pub v : List ℕ
 
+abbrev pub refPicList : EvcList → List ℕ → List ℕ → List ℕ → RefPicList
+refPicList list y u v = record { list = list; y = y; u = u; v = v }
+
 -- the three planes of a picture and of a block
 pub data Component : Type 0 where
   luma cb cr : Component

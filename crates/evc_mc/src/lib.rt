@@ -1,4 +1,25 @@
+ghost use mathlib.Core.Path.{_≡_};
+ghost use mathlib.Core.Bool.{true, false, cond, _&&_};
+ghost use lib.Dec.{eqb};
+ghost use Rattle.evc_int.specs.Whole.{eqZ};
+ghost use Prim.Native.Nat.{ℕ, _+_, _*_, _≤_};
+ghost use lib.IntN.{pos, _+ℤ_, _*ℤ_};
+ghost use lib.ListN.{length, getD};
+ghost use mir.Syntax.{w16};
+ghost use mir.Val.{SFits};
+ghost use Rattle.evc_int.specs.Lists.{withRow, withBlock};
+ghost use Rattle.evc_def.specs.Blocks.{badPicture};
+ghost use Rattle.evc_def.specs.Codes.{firstOf, blockChecks};
+ghost use Rattle.evc_plane.specs.Planes.{sideOf};
+ghost use Rattle.evc_clip.specs.Clip.{clippedPlace};
+ghost use Rattle.evc_interp.specs.Prediction.{predicted, mcPlaneCode};
+ghost use Rattle.evc_mc.specs.Block.{RefPicList, refPicList, Component, withSamples, listSample, firstSample, sameMotion, isBi, average, predLen, listShort, pocExceeds, listExceeds, mc2Code, mc2First, mc2Second};
+ghost use Rattle.evc_mc.specs.Pick.{either, Examined, ListExamined, withList, blockSample, RowSmall, BlockSmall};
+use evc_def::EvcBlock;
 use evc_def::EvcMv;
+use evc_def::MAX_POC;
+use evc_def::Pel;
+use evc_plane::PlaneType;
 
 // A list of a block: whether it is in use, its vector, and its picture's order count.
 #[repr(C)]
@@ -6,4 +27,293 @@ pub struct EvcList {
     pub used: bool,
     pub mv: EvcMv,
     pub poc: u32,
+}
+
+// ---- the clipped place
+
+// qpel_gmv_x, qpel_gmv_y: one component.
+fn qpel_gmv(place: u32, mv: i16) -> i16
+    requires { ⌜ (place ≤ 8128) × SFits w16 (pos 4 *ℤ pos place +ℤ mv) ⌝ }
+    ensures { λ r. ⌜ r ≡ pos 4 *ℤ pos place +ℤ mv ⌝ }
+{
+    Pel::new(place).qpel().moved(mv).0 as i16
+}
+
+fn clipped_place(b: EvcBlock, mv: EvcMv) -> EvcMv
+    requires { ⌜ firstOf (blockChecks b) ≡ 0 ⌝ }
+    ensures { λ r. ⌜ r ≡ clippedPlace b mv ⌝ }
+{
+    let mv_t = evc_clip::clip_mv(b, mv);
+    EvcMv {
+        x: qpel_gmv(b.x, mv_t.x),
+        y: qpel_gmv(b.y, mv_t.y),
+    }
+}
+
+// ---- the checks, each over one list
+
+const PRED_LEN: usize = 6144;
+
+fn list_short(b: EvcBlock, list: EvcList, y: &[u16], u: &[u16], v: &[u16]) -> bool
+    requires { ⌜ badPicture (b .«pic_w») (b .«pic_h») ≡ false ⌝ }
+    ensures { λ r. ⌜ r ≡ listShort b (refPicList list (now (y .entry)) (now (u .entry)) (now (v .entry))) ⌝ }
+{
+    let luma = evc_plane::plane_len(PlaneType::Y, b.pic_w, b.pic_h);
+    let chroma = evc_plane::plane_len(PlaneType::UV, b.pic_w, b.pic_h);
+    list.used & ((y.len() < luma) | (u.len() < chroma) | (v.len() < chroma))
+}
+
+fn poc_exceeds(list: EvcList) -> bool
+    ensures { λ r. ⌜ r ≡ pocExceeds list ⌝ }
+{
+    list.used & (MAX_POC < list.poc)
+}
+
+fn list_exceeds(b: EvcBlock, list: EvcList, y: &[u16], u: &[u16], v: &[u16]) -> bool
+    requires { ⌜ firstOf (blockChecks b) ≡ 0 ⌝ }
+    requires { ⌜ listShort b (refPicList list (now y) (now u) (now v)) ≡ false ⌝ }
+    ensures { λ r. ⌜ r ≡ listExceeds b (refPicList list (now (y .entry)) (now (u .entry)) (now (v .entry))) ⌝ }
+{
+    if !list.used {
+        return false;
+    }
+    let gmv = clipped_place(b, list.mv);
+    let w = b.w / 2;
+    let h = b.h / 2;
+    evc_interp::window_exceeds(PlaneType::Y, b.pic_w, b.pic_h, gmv, b.w, b.h, y)
+        | evc_interp::window_exceeds(PlaneType::UV, b.pic_w, b.pic_h, gmv, w, h, u)
+        | evc_interp::window_exceeds(PlaneType::UV, b.pic_w, b.pic_h, gmv, w, h, v)
+}
+
+fn mc2_code(
+    b: EvcBlock,
+    list0: EvcList,
+    y0: &[u16],
+    u0: &[u16],
+    v0: &[u16],
+    list1: EvcList,
+    y1: &[u16],
+    u1: &[u16],
+    v1: &[u16],
+    pred0: &[u16],
+    pred1: &[u16],
+) -> u32
+    ensures { λ r. ⌜ r ≡ mc2Code b (refPicList list0 (now (y0 .entry)) (now (u0 .entry)) (now (v0 .entry))) (refPicList list1 (now (y1 .entry)) (now (u1 .entry)) (now (v1 .entry))) (now (pred0 .entry)) (now (pred1 .entry)) ⌝ }
+{
+    let code = evc_def::block_code(b);
+    if code != 0 {
+        return code;
+    }
+    if !(list0.used | list1.used) {
+        return 3;
+    }
+    if list_short(b, list0, y0, u0, v0)
+        | list_short(b, list1, y1, u1, v1)
+        | (pred0.len() < PRED_LEN)
+        | (pred1.len() < PRED_LEN)
+    {
+        return 4;
+    }
+    if poc_exceeds(list0) | poc_exceeds(list1) {
+        return 5;
+    }
+    if list_exceeds(b, list0, y0, u0, v0) | list_exceeds(b, list1, y1, u1, v1) {
+        return 6;
+    }
+    0
+}
+
+// ---- the prediction of one list
+
+// One picker handing back either of the two lent parts.
+fn pick<'a>(a: &'a mut [u16], b: &'a mut [u16], second: bool) -> &'a mut [u16]
+    ensures { λ r. ⌜ r ≡ either second (a .entry) (b .entry) ⌝ }
+{
+    if second { b } else { a }
+}
+
+fn predict_picked(
+    t: PlaneType,
+    b: EvcBlock,
+    ori_mv: EvcMv,
+    gmv: EvcMv,
+    w: usize,
+    h: usize,
+    plane: &[u16],
+    part0: &mut [u16],
+    part1: &mut [u16],
+    second: bool,
+)
+    requires { ⌜ mcPlaneCode t (b .«pic_w») (b .«pic_h») gmv w h (now plane) (either second (now part0) (now part1)) ≡ 0 ⌝ }
+    ensures { λ _. ⌜ either second (now (part0 .exit)) (now (part1 .exit)) ≡ withBlock (either second (now (part0 .entry)) (now (part1 .entry))) 0 w w h (predicted t (b .«pic_w») (b .«pic_h») «ori_mv» gmv (now (plane .entry))) ⌝ }
+{
+    let pred = pick(part0, part1, second);
+    evc_interp::predict(t, b.pic_w, b.pic_h, ori_mv, gmv, w, h, plane, pred);
+}
+
+// The end of a part: e where it is wanted, and o, for an empty part, where it is not.
+fn end_if(wanted: bool, o: usize, e: usize) -> usize
+    requires { ⌜ o ≤ e ⌝ }
+    ensures { λ r. ⌜ (r ≡ either wanted o e) × (o ≤ r) × (r ≤ e) ⌝ }
+{
+    if wanted { e } else { o }
+}
+
+// One plane of a list to its place o in the picked block. Of the other block an empty part is lent.
+fn predict_component(
+    t: PlaneType,
+    b: EvcBlock,
+    ori_mv: EvcMv,
+    gmv: EvcMv,
+    plane: &[u16],
+    pred0: &mut [u16],
+    pred1: &mut [u16],
+    second: bool,
+    o: usize,
+)
+    requires { ⌜ firstOf (blockChecks b) ≡ 0 ⌝ }
+    requires { ⌜ Examined b t gmv (now plane) ⌝ }
+    requires { ⌜ (o + sideOf t (b .h) * sideOf t (b .w) ≤ length (now pred0)) × (o + sideOf t (b .h) * sideOf t (b .w) ≤ length (now pred1)) ⌝ }
+    ensures { λ _. ⌜ now (pred0 .exit) ≡ either second (withBlock (now (pred0 .entry)) o (sideOf t (b .w)) (sideOf t (b .w)) (sideOf t (b .h)) (predicted t (b .«pic_w») (b .«pic_h») «ori_mv» gmv (now (plane .entry)))) (now (pred0 .entry)) ⌝ }
+    ensures { λ _. ⌜ now (pred1 .exit) ≡ either second (now (pred1 .entry)) (withBlock (now (pred1 .entry)) o (sideOf t (b .w)) (sideOf t (b .w)) (sideOf t (b .h)) (predicted t (b .«pic_w») (b .«pic_h») «ori_mv» gmv (now (plane .entry)))) ⌝ }
+{
+    let w = evc_plane::side(t, b.w);
+    let h = evc_plane::side(t, b.h);
+    let e = o + h * w;
+    let e0 = end_if(!second, o, e);
+    let e1 = end_if(second, o, e);
+    predict_picked(
+        t,
+        b,
+        ori_mv,
+        gmv,
+        w,
+        h,
+        plane,
+        &mut pred0[o..e0],
+        &mut pred1[o..e1],
+        second,
+    );
+}
+
+// The three planes of a list, if it is in use, to the block that is picked.
+fn predict_list(
+    b: EvcBlock,
+    list: EvcList,
+    gmv: EvcMv,
+    y: &[u16],
+    u: &[u16],
+    v: &[u16],
+    pred0: &mut [u16],
+    pred1: &mut [u16],
+    second: bool,
+)
+    requires { ⌜ (firstOf (blockChecks b) ≡ 0) × (gmv ≡ clippedPlace b (list .mv)) ⌝ }
+    requires { ⌜ ListExamined b gmv (refPicList list (now y) (now u) (now v)) ⌝ }
+    requires { ⌜ (predLen ≤ length (now pred0)) × (predLen ≤ length (now pred1)) ⌝ }
+    ensures { λ _. ⌜ now (pred0 .exit) ≡ either second (withList b (refPicList list (now (y .entry)) (now (u .entry)) (now (v .entry))) (now (pred0 .entry))) (now (pred0 .entry)) ⌝ }
+    ensures { λ _. ⌜ now (pred1 .exit) ≡ either second (now (pred1 .entry)) (withList b (refPicList list (now (y .entry)) (now (u .entry)) (now (v .entry))) (now (pred1 .entry))) ⌝ }
+{
+    if !list.used {
+        return;
+    }
+    let mv = list.mv;
+    let o_u = evc_def::cu_dim_offset(1);
+    let o_v = evc_def::cu_dim_offset(2);
+    predict_component(PlaneType::Y, b, mv, gmv, y, pred0, pred1, second, 0);
+    predict_component(PlaneType::UV, b, mv, gmv, u, pred0, pred1, second, o_u);
+    predict_component(PlaneType::UV, b, mv, gmv, v, pred0, pred1, second, o_v);
+}
+
+// ---- two predictions
+
+// n samples of both blocks from o on: the first block gets the average.
+fn average_plane(pred0: &mut [u16], pred1: &[u16], o: usize, n: usize)
+    requires { ⌜ (o + n ≤ length (now pred0)) × (o + n ≤ length (now pred1)) ⌝ }
+    requires { ⌜ RowSmall (now pred0) o n × RowSmall (now pred1) o n ⌝ }
+    ensures { λ _. ⌜ now (pred0 .exit) ≡ withRow (now (pred0 .entry)) o n (λ (i : ℕ). average (getD (now (pred0 .entry)) (o + i) 0) (getD (now (pred1 .entry)) (o + i) 0)) ⌝ }
+{
+    for i in 0..n {
+        pred0[o + i] = (pred0[o + i] + pred1[o + i] + 1) >> 1;
+    }
+}
+
+// The three planes of both blocks.
+fn average_block(b: EvcBlock, pred0: &mut [u16], pred1: &[u16])
+    requires { ⌜ (firstOf (blockChecks b) ≡ 0) × (predLen ≤ length (now pred0)) × (predLen ≤ length (now pred1)) ⌝ }
+    requires { ⌜ BlockSmall b (now pred0) × BlockSmall b (now pred1) ⌝ }
+    ensures { λ _. ⌜ now (pred0 .exit) ≡ withSamples b (λ (c : Component) (y x : ℕ). average (blockSample b (now (pred0 .entry)) c y x) (blockSample b (now (pred1 .entry)) c y x)) (now (pred0 .entry)) ⌝ }
+{
+    let w = b.w as usize;
+    let h = b.h as usize;
+    let chroma = (h / 2) * (w / 2);
+    let o_u = evc_def::cu_dim_offset(1);
+    let o_v = evc_def::cu_dim_offset(2);
+    average_plane(pred0, pred1, 0, h * w);
+    average_plane(pred0, pred1, o_u, chroma);
+    average_plane(pred0, pred1, o_v, chroma);
+}
+
+// Equal counts, and equal clipped vectors: equal places of the same block.
+fn same_motion(list0: EvcList, gmv0: EvcMv, list1: EvcList, gmv1: EvcMv) -> bool
+    ensures { λ r. ⌜ r ≡ eqb (list0 .poc) (list1 .poc) && eqZ (gmv0 .x) (gmv1 .x) && eqZ (gmv0 .y) (gmv1 .y) ⌝ }
+{
+    (list0.poc == list1.poc) & (gmv0.x == gmv1.x) & (gmv0.y == gmv1.y)
+}
+
+// ---- the call
+
+fn predict_lists(
+    b: EvcBlock,
+    list0: EvcList,
+    y0: &[u16],
+    u0: &[u16],
+    v0: &[u16],
+    list1: EvcList,
+    y1: &[u16],
+    u1: &[u16],
+    v1: &[u16],
+    pred0: &mut [u16],
+    pred1: &mut [u16],
+)
+    requires { ⌜ mc2Code b (refPicList list0 (now y0) (now u0) (now v0)) (refPicList list1 (now y1) (now u1) (now v1)) (now pred0) (now pred1) ≡ 0 ⌝ }
+    ensures { λ _. ⌜ now (pred0 .exit) ≡ withSamples b (firstSample b (refPicList list0 (now (y0 .entry)) (now (u0 .entry)) (now (v0 .entry))) (refPicList list1 (now (y1 .entry)) (now (u1 .entry)) (now (v1 .entry)))) (now (pred0 .entry)) ⌝ }
+    ensures { λ _. ⌜ now (pred1 .exit) ≡ cond (isBi b list0 list1) (withSamples b (listSample b (refPicList list1 (now (y1 .entry)) (now (u1 .entry)) (now (v1 .entry)))) (now (pred1 .entry))) (now (pred1 .entry)) ⌝ }
+{
+    let gmv0 = clipped_place(b, list0.mv);
+    let gmv1 = clipped_place(b, list1.mv);
+    let both = list0.used & list1.used;
+    predict_list(b, list0, gmv0, y0, u0, v0, pred0, pred1, false);
+    if both & same_motion(list0, gmv0, list1, gmv1) {
+        return;
+    }
+    predict_list(b, list1, gmv1, y1, u1, v1, pred0, pred1, list0.used);
+    if both {
+        average_block(b, pred0, pred1);
+    }
+}
+
+pub fn evc_mc2(
+    block: EvcBlock,
+    list0: EvcList,
+    y0: &[u16],
+    u0: &[u16],
+    v0: &[u16],
+    list1: EvcList,
+    y1: &[u16],
+    u1: &[u16],
+    v1: &[u16],
+    pred0: &mut [u16],
+    pred1: &mut [u16],
+) -> u32
+    ensures { λ r. ⌜ r ≡ mc2Code block (refPicList list0 (now (y0 .entry)) (now (u0 .entry)) (now (v0 .entry))) (refPicList list1 (now (y1 .entry)) (now (u1 .entry)) (now (v1 .entry))) (now (pred0 .entry)) (now (pred1 .entry)) ⌝ }
+    ensures { λ _. ⌜ now (pred0 .exit) ≡ mc2First block (refPicList list0 (now (y0 .entry)) (now (u0 .entry)) (now (v0 .entry))) (refPicList list1 (now (y1 .entry)) (now (u1 .entry)) (now (v1 .entry))) (now (pred0 .entry)) (now (pred1 .entry)) ⌝ }
+    ensures { λ _. ⌜ now (pred1 .exit) ≡ mc2Second block (refPicList list0 (now (y0 .entry)) (now (u0 .entry)) (now (v0 .entry))) (refPicList list1 (now (y1 .entry)) (now (u1 .entry)) (now (v1 .entry))) (now (pred0 .entry)) (now (pred1 .entry)) ⌝ }
+{
+    let code = mc2_code(block, list0, y0, u0, v0, list1, y1, u1, v1, pred0, pred1);
+    if code != 0 {
+        return code;
+    }
+    predict_lists(block, list0, y0, u0, v0, list1, y1, u1, v1, pred0, pred1);
+    0
 }

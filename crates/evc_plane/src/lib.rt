@@ -52,7 +52,7 @@ fn xorigin(t: PlaneType) -> usize
 }
 
 // A plane's side, from the picture's.
-fn side(t: PlaneType, n: u32) -> usize
+pub fn side(t: PlaneType, n: u32) -> usize
     ensures { λ r. ⌜ r ≡ sideOf t n ⌝ }
 {
     match t {

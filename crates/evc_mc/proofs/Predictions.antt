@@ -1,0 +1,144 @@
+-- From the predictions of the lists to the two blocks: one list, list 0 alone for equal motion, or two and their average. Assumes nothing.
+use mathlib.Core.Bool.{Bool, true, false, not, cond, _&&_, _||_}
+use mathlib.Core.List.{List}
+use mathlib.Core.Path.{_≡_, refl, sym, ap, ap₂, subst, _∙_}
+use Prim.Native.Nat.{ℕ, _+_, _*_, _<_, _≤_}
+use native.Mathlib.Omega.{arith}
+use lib.Dec.{T}
+use lib.ListN.{length}
+use Rattle.evc_def.specs.Codes.{firstOf, blockChecks}
+use Rattle.evc_def.specs.declared.EvcBlock.{EvcBlock}
+use Rattle.evc_clip.specs.Clip.{clippedPlace}
+use Rattle.evc_interp.proofs.Windows as windows
+use Rattle.evc_mc.specs.Block.{RefPicList, Component, typeOf, planeOf, offsetOf, widthOf, heightOf, withSamples, listSample, firstSample, sameMotion, isBi, average, listShort, listExceeds, predLen}
+use Rattle.evc_mc.specs.Pick.{either, withList, blockSample, BlockSmall}
+use Rattle.evc_mc.proofs.Small.{predicted-small}
+use Rattle.evc_mc.proofs.Checks.{Sides, sides, plane-accepted, list-examined}
+use Rattle.evc_mc.proofs.Samples.{component-room, component-end, samples-at, samples-ext, samples-again}
+
+either-first : {X : Type 0} (t : Bool) (a b : X) → t ≡ false → either t a b ≡ a
+unfolding either
+either-first false a b e = refl
+either-first true a b e = absurd (subst T e tt)
+
+either-second : {X : Type 0} (t : Bool) (a b : X) → t ≡ true → either t a b ≡ b
+unfolding either
+either-second true a b e = refl
+either-second false a b e = absurd (subst T (sym e) tt)
+
+-- ---- one list
+
+module _ (b : EvcBlock) (l : RefPicList) where
+  list-used : (d : List ℕ) → l .list .used ≡ true → withList b l d ≡ withSamples b (listSample b l) d
+  unfolding withList
+  list-used d u = ap (λ (t : Bool). cond t (withSamples b (listSample b l) d) d) u
+
+  list-unused : (d : List ℕ) → l .list .used ≡ false → withList b l d ≡ d
+  unfolding withList
+  list-unused d u = ap (λ (t : Bool). cond t (withSamples b (listSample b l) d) d) u
+
+  -- its samples are at most 1023 (p is a list with room for each plane)
+  list-small : (p : List ℕ) → firstOf (blockChecks b) ≡ 0 → predLen ≤ length p → listShort b l ≡ false → listExceeds b l ≡ false → l .list .used ≡ true
+      → (c : Component) (y x : ℕ) → y < heightOf b c → x < widthOf b c → listSample b l c y x ≤ 1023
+  unfolding listSample
+  list-small p e long s f u c y x ly lx =
+      let g = list-examined b l _ s f refl u c in
+      let room : heightOf b c * widthOf b c ≤ length p = omega (arith, component-room b (sides b e) c, component-end c) in
+      predicted-small (typeOf c) _ _ (l .list .mv) _ (widthOf b c) (heightOf b c) (planeOf c l) p (windows.accepts _ _ _ _ _ _ _ _ (plane-accepted b (typeOf c) _ (planeOf c l) p e g room)) y x ly lx
+
+-- ---- both
+
+module _ (b : EvcBlock) (l m : RefPicList) where
+  not-both : (l .list .used && m .list .used) ≡ false → isBi b (l .list) (m .list) ≡ false
+  unfolding isBi
+  not-both e = ap (λ (t : Bool). t && not (sameMotion b (l .list) (m .list))) e
+
+  pub not-same : (l .list .used && m .list .used) ≡ true → sameMotion b (l .list) (m .list) ≡ false → isBi b (l .list) (m .list) ≡ true
+  unfolding isBi
+  not-same e f = ap₂ (λ (t s : Bool). t && not s) e f
+
+  pub same : sameMotion b (l .list) (m .list) ≡ true → isBi b (l .list) (m .list) ≡ false
+  unfolding isBi
+  same e = ap (λ (s : Bool). (l .list .used && m .list .used) && not s) e ∙ nothing (l .list .used && m .list .used)
+    where
+      nothing : (t : Bool) → (t && false) ≡ false
+      nothing true = refl
+      nothing false = refl
+
+  module _ (c : Component) (y x : ℕ) where
+    first-0 : isBi b (l .list) (m .list) ≡ false → l .list .used ≡ true → listSample b l c y x ≡ firstSample b l m c y x
+    unfolding firstSample
+    first-0 e u = sym (ap (λ (t : Bool). cond t (average (listSample b l c y x) (listSample b m c y x)) (cond (l .list .used) (listSample b l c y x) (listSample b m c y x))) e ∙ ap (λ (t : Bool). cond t (listSample b l c y x) (listSample b m c y x)) u)
+
+    first-1 : isBi b (l .list) (m .list) ≡ false → l .list .used ≡ false → listSample b m c y x ≡ firstSample b l m c y x
+    unfolding firstSample
+    first-1 e u = sym (ap (λ (t : Bool). cond t (average (listSample b l c y x) (listSample b m c y x)) (cond (l .list .used) (listSample b l c y x) (listSample b m c y x))) e ∙ ap (λ (t : Bool). cond t (listSample b l c y x) (listSample b m c y x)) u)
+
+    first-bi : isBi b (l .list) (m .list) ≡ true → average (listSample b l c y x) (listSample b m c y x) ≡ firstSample b l m c y x
+    unfolding firstSample
+    first-bi e = sym (ap (λ (t : Bool). cond t (average (listSample b l c y x) (listSample b m c y x)) (cond (l .list .used) (listSample b l c y x) (listSample b m c y x))) e)
+
+  module _ (p q : List ℕ) where
+    -- what the call leaves in the two blocks
+    abbrev Left : List ℕ → List ℕ → Type 0
+    Left d e = (d ≡ withSamples b (firstSample b l m) p) × (e ≡ cond (isBi b (l .list) (m .list)) (withSamples b (listSample b m) q) q)
+
+    kept : isBi b (l .list) (m .list) ≡ false → q ≡ cond (isBi b (l .list) (m .list)) (withSamples b (listSample b m) q) q
+    kept e = sym (ap (λ (t : Bool). cond t (withSamples b (listSample b m) q) q) e)
+
+    module _ (a₀ a₁ : List ℕ) (e₀ : a₀ ≡ either false (withList b l p) p) (e₁ : a₁ ≡ either false q (withList b l q)) where
+      first-is : a₀ ≡ withList b l p
+      first-is = e₀ ∙ either-first false _ _ refl
+
+      second-is : a₁ ≡ q
+      second-is = e₁ ∙ either-first false _ _ refl
+
+      -- list 0 alone
+      pub stands : l .list .used ≡ true → isBi b (l .list) (m .list) ≡ false → Left a₀ a₁
+      stands u n = (first-is ∙ list-used b l p u ∙ samples-ext b _ _ p (λ c y x ly lx. first-0 c y x n u), second-is ∙ kept n)
+
+      module _ (b₀ b₁ : List ℕ) (f₀ : b₀ ≡ either (l .list .used) (withList b m a₀) a₀) (f₁ : b₁ ≡ either (l .list .used) a₁ (withList b m a₁)) where
+        -- one list is in use
+        pub single : (l .list .used || m .list .used) ≡ true → (l .list .used && m .list .used) ≡ false → Left b₀ b₁
+        single s n = go (l .list .used) (m .list .used) refl refl s n
+          where
+            go : (t v : Bool) → l .list .used ≡ t → m .list .used ≡ v → (t || v) ≡ true → (t && v) ≡ false → Left b₀ b₁
+            go true true u w s k = absurd (subst T k tt)
+            go true false u w s k =
+                let r = stands u (not-both n) in
+                (f₀ ∙ either-second _ _ _ u ∙ r .0, f₁ ∙ either-second _ _ _ u ∙ list-unused b m a₁ w ∙ r .1)
+            go false true u w s k = (
+              f₀ ∙ either-first _ _ _ u ∙ list-used b m a₀ w ∙ ap (withSamples b (listSample b m)) (first-is ∙ list-unused b l p u) ∙ samples-ext b _ _ p (λ c y x ly lx. first-1 c y x (not-both n) u),
+              f₁ ∙ either-first _ _ _ u ∙ second-is ∙ kept (not-both n),
+            )
+            go false false u w s k = absurd (subst T (sym s) tt)
+
+        module _ (u : l .list .used ≡ true) (w : m .list .used ≡ true) where
+          both-0 : b₀ ≡ withSamples b (listSample b l) p
+          both-0 = f₀ ∙ either-second _ _ _ u ∙ first-is ∙ list-used b l p u
+
+          both-1 : b₁ ≡ withSamples b (listSample b m) q
+          both-1 = f₁ ∙ either-second _ _ _ u ∙ list-used b m a₁ w ∙ ap (withSamples b (listSample b m)) second-is
+
+          module _ (z : Sides b) (lp : predLen ≤ length p) (lq : predLen ≤ length q) where
+            at-0 : (c : Component) (y x : ℕ) → y < heightOf b c → x < widthOf b c → blockSample b b₀ c y x ≡ listSample b l c y x
+            at-0 c y x ly lx = ap (λ (d : List ℕ). blockSample b d c y x) both-0 ∙ samples-at b z (listSample b l) p lp c y x ly lx
+
+            at-1 : (c : Component) (y x : ℕ) → y < heightOf b c → x < widthOf b c → blockSample b b₁ c y x ≡ listSample b m c y x
+            at-1 c y x ly lx = ap (λ (d : List ℕ). blockSample b d c y x) both-1 ∙ samples-at b z (listSample b m) q lq c y x ly lx
+
+            -- what averaging asks ..
+            pub both-small : firstOf (blockChecks b) ≡ 0 → listShort b l ≡ false → listExceeds b l ≡ false → listShort b m ≡ false → listExceeds b m ≡ false → BlockSmall b b₀ × BlockSmall b b₁
+            both-small e sl xl sm xm = (
+              λ c y x ly lx. subst (λ (v : ℕ). v ≤ 1023) (sym (at-0 c y x ly lx)) (list-small b l p e lp sl xl u c y x ly lx),
+              λ c y x ly lx. subst (λ (v : ℕ). v ≤ 1023) (sym (at-1 c y x ly lx)) (list-small b m p e lp sm xm w c y x ly lx),
+            )
+
+            -- .. and gives
+            pub averaged : (c₀ : List ℕ) → isBi b (l .list) (m .list) ≡ true → c₀ ≡ withSamples b (λ (c : Component) (y x : ℕ). average (blockSample b b₀ c y x) (blockSample b b₁ c y x)) b₀ → Left c₀ b₁
+            averaged c₀ bi g = (
+              g ∙ ap (withSamples b (λ (c : Component) (y x : ℕ). average (blockSample b b₀ c y x) (blockSample b b₁ c y x))) both-0
+                  ∙ samples-again b z (listSample b l) _ p
+                  ∙ samples-ext b _ _ p (λ c y x ly lx. ap₂ average (at-0 c y x ly lx) (at-1 c y x ly lx) ∙ first-bi c y x bi),
+              both-1 ∙ sym (ap (λ (t : Bool). cond t (withSamples b (listSample b m) q) q) bi),
+            )

@@ -1,0 +1,142 @@
+-- `evc_mc::predict_component` meets its contract: the picked part comes back predicted, and the other part is empty, so its block comes back as it was.
+-- Assumes nothing.
+use Prim.Native.Nat.{ℕ, _+_, _-_, _*_, _≤_}
+use mathlib.Core.Path.{_≡_, refl, _∙_, ap, ap₂, sym, subst}
+use mathlib.Core.Bool.{Bool, true, false, not}
+use mathlib.Core.List.{List, [], _∷_, _++_}
+use native.Mathlib.Nat.{sub-self}
+use native.Mathlib.Omega.{arith}
+use borrow.Author.Needs.{needs}
+use lib.ListN.{length, take, drop, length-drop, take-append-drop}
+use lib.Seq.{length-take-le}
+use Rattle.evc_int.specs.Lists.{withBlock}
+use Rattle.evc_def.specs.declared.EvcBlock.{EvcBlock}
+use Rattle.evc_def.specs.declared.EvcMv.{EvcMv}
+use Rattle.evc_def.specs.Codes.{firstOf, blockChecks}
+use Rattle.evc_plane.specs.Planes.{sideOf}
+use Rattle.evc_plane.specs.declared.PlaneType.{PlaneType}
+use Rattle.evc_interp.specs.Prediction.{mcPlaneCode}
+use Rattle.evc_mc.specs.Pick.{either, Examined}
+use Rattle.evc_mc.proofs.Lists.{withBlock-part}
+use Rattle.evc_mc.proofs.Checks.{plane-accepted}
+use Rattle.evc_mc.proofs.predict_component.Statement.{statement}
+use Rattle.evc_mc.proofs.predict_component.Tie as tie
+
+nil : (z : List ℕ) → length z ≡ 0 → z ≡ []
+nil [] h = refl
+nil (x ∷ z) h = absurd (omega (arith, h))
+
+-- an empty part leaves the block as it was
+kept : (p z : List ℕ) (o : ℕ) → length z ≡ length (take (o - o) (drop o p)) → take o p ++ (z ++ drop (o - o) (drop o p)) ≡ p
+kept p z o h =
+    let s : o - o ≡ 0 = sub-self o in
+    let e : z ≡ [] = nil z (h ∙ ap (λ (k : ℕ). length (take k (drop o p))) s) in
+    ap (λ (w : List ℕ). take o p ++ (w ++ drop (o - o) (drop o p))) e ∙ (ap (λ (k : ℕ). take o p ++ drop k (drop o p)) s ∙ take-append-drop o p)
+
+module _ (o n h : ℕ) where
+  whole : (o + h * n) - o ≡ h * n
+  whole = omega arith
+
+  -- a predicted part
+  made : (f : ℕ → ℕ → ℕ) (p z : List ℕ) → o + h * n ≤ length p → z ≡ withBlock (take ((o + h * n) - o) (drop o p)) 0 n n h f → take o p ++ (z ++ drop ((o + h * n) - o) (drop o p)) ≡ withBlock p o n n h f
+  made f p z l e =
+      ap (λ (w : List ℕ). take o p ++ (w ++ drop ((o + h * n) - o) (drop o p))) e
+      ∙ ap (λ (k : ℕ). take o p ++ (withBlock (take k (drop o p)) 0 n n h f ++ drop k (drop o p))) whole
+      ∙ withBlock-part p o n h f l
+
+  part-length : (p : List ℕ) → o + h * n ≤ length p → length (take ((o + h * n) - o) (drop o p)) ≡ h * n
+  part-length p l = ap (λ (k : ℕ). length (take k (drop o p))) whole ∙ length-take-le (h * n) (drop o p) (simp length-drop (omega arith))
+
+  -- the part that is picked has the block's size
+  picked-length : (second : Bool) (p0 p1 : List ℕ) (e0 e1 : ℕ) → o + h * n ≤ length p0 → o + h * n ≤ length p1 → e0 ≡ either (not second) o (o + h * n) → e1 ≡ either second o (o + h * n)
+      → length (either second (take (e0 - o) (drop o p0)) (take (e1 - o) (drop o p1))) ≡ h * n
+  unfolding either
+  picked-length true p0 p1 e0 e1 l0 l1 q0 q1 = subst (λ (k : ℕ). length (take (k - o) (drop o p1)) ≡ h * n) (sym q1) (part-length p1 l1)
+  picked-length false p0 p1 e0 e1 l0 l1 q0 q1 = subst (λ (k : ℕ). length (take (k - o) (drop o p0)) ≡ h * n) (sym q0) (part-length p0 l0)
+
+  -- both blocks, by which is picked
+  after : (f : ℕ → ℕ → ℕ) (second : Bool) (p0 p1 za zb : List ℕ) (e0 e1 : ℕ) → o + h * n ≤ length p0 → o + h * n ≤ length p1
+      → e0 ≡ either (not second) o (o + h * n) → e1 ≡ either second o (o + h * n)
+      → length za ≡ length (take (e0 - o) (drop o p0)) → length zb ≡ length (take (e1 - o) (drop o p1))
+      → either second za zb ≡ withBlock (either second (take (e0 - o) (drop o p0)) (take (e1 - o) (drop o p1))) 0 n n h f
+      → (take o p0 ++ (za ++ drop (e0 - o) (drop o p0)) ≡ either second (withBlock p0 o n n h f) p0) × (take o p1 ++ (zb ++ drop (e1 - o) (drop o p1)) ≡ either second p1 (withBlock p1 o n n h f))
+  unfolding either
+  after f true p0 p1 za zb e0 e1 l0 l1 q0 q1 n0 n1 e = (
+    subst (λ (k : ℕ). length za ≡ length (take (k - o) (drop o p0)) → take o p0 ++ (za ++ drop (k - o) (drop o p0)) ≡ p0) (sym q0) (kept p0 za o) n0,
+    subst (λ (k : ℕ). zb ≡ withBlock (take (k - o) (drop o p1)) 0 n n h f → take o p1 ++ (zb ++ drop (k - o) (drop o p1)) ≡ withBlock p1 o n n h f) (sym q1) (made f p1 zb l1) e,
+  )
+  after f false p0 p1 za zb e0 e1 l0 l1 q0 q1 n0 n1 e = (
+    subst (λ (k : ℕ). za ≡ withBlock (take (k - o) (drop o p0)) 0 n n h f → take o p0 ++ (za ++ drop (k - o) (drop o p0)) ≡ withBlock p0 o n n h f) (sym q0) (made f p0 za l0) e,
+    subst (λ (k : ℕ). length zb ≡ length (take (k - o) (drop o p1)) → take o p1 ++ (zb ++ drop (k - o) (drop o p1)) ≡ p1) (sym q1) (kept p1 zb o) n1,
+  )
+
+-- the same by the sides that the code has
+after-sides : (o N H n h : ℕ) → n ≡ N → h ≡ H → (f : ℕ → ℕ → ℕ) (second : Bool) (p0 p1 za zb : List ℕ) (e0 e1 : ℕ) → o + H * N ≤ length p0 → o + H * N ≤ length p1
+    → e0 ≡ either (not second) o (o + h * n) → e1 ≡ either second o (o + h * n)
+    → length za ≡ length (take (e0 - o) (drop o p0)) → length zb ≡ length (take (e1 - o) (drop o p1))
+    → either second za zb ≡ withBlock (either second (take (e0 - o) (drop o p0)) (take (e1 - o) (drop o p1))) 0 n n h f
+    → (take o p0 ++ (za ++ drop (e0 - o) (drop o p0)) ≡ either second (withBlock p0 o N N H f) p0) × (take o p1 ++ (zb ++ drop (e1 - o) (drop o p1)) ≡ either second p1 (withBlock p1 o N N H f))
+after-sides o N H n h en eh f second p0 p1 za zb e0 e1 l0 l1 q0 q1 n0 n1 e =
+    rw (sym en, sym eh) (after o n h f second p0 p1 za zb e0 e1 (rw (en, eh) l0) (rw (en, eh) l1) q0 q1 n0 n1 e)
+
+accepted-sides : (b : EvcBlock) (t : PlaneType) (gmv : EvcMv) (s d : List ℕ) (n h : ℕ) → n ≡ sideOf t (b .w) → h ≡ sideOf t (b .h) → firstOf (blockChecks b) ≡ 0 → Examined b t gmv s → length d ≡ h * n
+    → mcPlaneCode t (b .«pic_w») (b .«pic_h») gmv n h s d ≡ 0
+accepted-sides b t gmv s d n h en eh e x l = rw (en, eh) (plane-accepted b t gmv s d e x (omega (arith, l, ap₂ _*_ eh en)))
+
+abbrev start : tie.After-side2 → tie.Start
+start c = c .before .before .before .before .before
+
+w-is : (c : tie.After-side2) → c .before .side .result ≡ sideOf (start c .args .t) (start c .args .b .w)
+w-is c = c .before .side .ensures
+
+h-is : (c : tie.After-side2) → c .side2 .result ≡ sideOf (start c .args .t) (start c .args .b .h)
+h-is c = c .side2 .ensures
+
+-- there is room for the part in both blocks
+room : (c : tie.After-side2) → let a = start c .args in let n = c .side2 .result * c .before .side .result in (a .o + n ≤ length (a .pred0 .now)) × (a .o + n ≤ length (a .pred1 .now))
+room c =
+    let s = start c in
+    let e : c .side2 .result * c .before .side .result ≡ sideOf (s .args .t) (s .args .b .h) * sideOf (s .args .t) (s .args .b .w) = ap₂ _*_ (h-is c) (w-is c) in
+    (subst (λ (n : ℕ). s .args .o + n ≤ length (s .args .pred0 .now)) (sym e) (s .pre .1 .1 .0), subst (λ (n : ℕ). s .args .o + n ≤ length (s .args .pred1 .now)) (sym e) (s .pre .1 .1 .1))
+
+predict-picked-requires : tie.Need-predict-picked-requires
+predict-picked-requires c κs =
+    let k = c .before .before .before .before in
+    let s = start k in
+    let a = s .args in
+    let r = room k in
+    accepted-sides (a .b) (a .t) (a .gmv) (a .plane .now) _ _ _ (w-is k) (h-is k) (s .pre .0) (s .pre .1 .0)
+    (picked-length (a .o) _ _ (a .second) (a .pred0 .now) (a .pred1 .now) _ _ (r .0) (r .1) (c .before .before .before .end-if .ensures .0) (c .before .before .end-if2 .ensures .0))
+
+returns : tie.Need-returns
+returns c =
+    let d = c .before .before .before .before in
+    let k = d .before .before .before .before .before in
+    let s = start k in
+    let a = s .args in
+    after-sides (a .o) _ _ _ _ (w-is k) (h-is k) _ (a .second) (a .pred0 .now) (a .pred1 .now) _ _ _ _ (s .pre .1 .1 .0) (s .pre .1 .1 .1)
+    (d .before .before .before .before .end-if .ensures .0) (d .before .before .before .end-if2 .ensures .0)
+    (d .predict-picked .kept .1 .1 .1 .1 .1 .1 .1 .0) (d .predict-picked .kept .1 .1 .1 .1 .1 .1 .1 .1 .0) (d .predict-picked .ensures)
+
+pub predict-component-spec : {M : Type 1} → statement M
+predict-component-spec =
+    tie.close
+    (tie.spec
+    (λ c κs. search needs)
+    (λ c κs. search needs)
+    (λ c. record { fits = omega (arith, room c) })
+    (λ c. record { fits = omega (arith, room c) })
+    (λ c κs. search needs)
+    (λ c κs. search needs)
+    (λ c. search needs)
+    (λ c. search needs)
+    (λ c. search needs)
+    (λ c. omega (arith, room (c .before .before)))
+    (λ c. search needs)
+    (λ c. search needs)
+    (λ c. search needs)
+    (λ c. omega (arith, room (c .before .before .before)))
+    predict-picked-requires
+    (λ c. search needs)
+    (λ c. search needs)
+    returns)
