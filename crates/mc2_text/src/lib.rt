@@ -123,7 +123,43 @@ fn print_answer(code: u32, pred0: &[u16], pred1: &[u16]) {
     pad_text::print_number(pad_text::hash(pred1, 0, pred1.len()));
 }
 
-// Both blocks hold arbitrary samples first. Printed are the answer and a number for all of each.
+fn predict(
+    planes: &Record,
+    r: &Record,
+    y0: &[u16],
+    u0: &[u16],
+    v0: &[u16],
+    y1: &[u16],
+    u1: &[u16],
+    v1: &[u16],
+    pred0: &mut [u16],
+    pred1: &mut [u16],
+) -> u32 {
+    let used = number(r, USED);
+    evc_mc::evc_mc2(
+        block_of(planes, r),
+        list_of(r, used % 2 == 1, LIST),
+        y0,
+        u0,
+        v0,
+        list_of(r, used / 2 == 1, LIST + 3),
+        y1,
+        u1,
+        v1,
+        pred0,
+        pred1,
+    )
+}
+
+// A block of arbitrary samples.
+fn make_block(pred: &mut [u16], r: &Record, k: usize)
+    requires { ⌜ k < 16 ⌝ }
+{
+    let n = pred.len();
+    pad_text::scatter(pred, n, pad_text::wide(number(r, k)));
+}
+
+// Printed are the answer and a number for all of each block.
 fn run_block(
     planes: &Record,
     r: &Record,
@@ -136,24 +172,9 @@ fn run_block(
     pred0: &mut [u16],
     pred1: &mut [u16],
 ) {
-    let n0 = pred0.len();
-    let n1 = pred1.len();
-    pad_text::scatter(pred0, n0, pad_text::wide(number(r, BLOCK_SEED)));
-    pad_text::scatter(pred1, n1, pad_text::wide(number(r, BLOCK_SEED + 1)));
-    let used = number(r, USED);
-    let code = evc_mc::evc_mc2(
-        block_of(planes, r),
-        list_of(r, used % 2 == 1, LIST),
-        y0,
-        u0,
-        v0,
-        list_of(r, used / 2 == 1, LIST + 3),
-        y1,
-        u1,
-        v1,
-        pred0,
-        pred1,
-    );
+    make_block(pred0, r, BLOCK_SEED);
+    make_block(pred1, r, BLOCK_SEED + 1);
+    let code = predict(planes, r, y0, u0, v0, y1, u1, v1, pred0, pred1);
     print_answer(code, pred0, pred1);
 }
 
@@ -206,24 +227,38 @@ fn run_calls(
 
 // ---- the planes, and all records
 
-// Plane k of the six: arbitrary samples below the limit, and one of them set.
-fn make_plane(t: PlaneType, plane: &mut [u16], r: &Record, seed: u64, k: u16)
+// One sample of plane k, if it is in this plane and the plane is that long.
+fn set_sample(plane: &mut [u16], r: &Record, k: u16) {
+    let place = number(r, SET_PLACE) as usize;
+    if number(r, SET_PLANE) == k {
+        if place < plane.len() {
+            plane[place] = number(r, SET_VALUE);
+        }
+    }
+}
+
+// Arbitrary samples below the limit.
+fn fill_plane(t: PlaneType, plane: &mut [u16], r: &Record, seed: u64)
     requires { ⌜ seed < 2147483648 ⌝ }
 {
-    let n = plane.len();
     let limit = number(r, LIMIT);
     if limit == 0 {
         return;
     }
+    let n = plane.len();
     pad_text::scatter(plane, n, seed);
     pad_text::reduce_row(plane, 0, n, limit);
     if number(r, IS_PADDED) == 1 {
         evc_plane::pad(t, number32(r, PIC_W), number32(r, PIC_H), plane);
     }
-    let place = number(r, SET_PLACE) as usize;
-    if (number(r, SET_PLANE) == k) & (place < n) {
-        plane[place] = number(r, SET_VALUE);
-    }
+}
+
+// Plane k of the six.
+fn make_plane(t: PlaneType, plane: &mut [u16], r: &Record, seed: u64, k: u16)
+    requires { ⌜ seed < 2147483648 ⌝ }
+{
+    fill_plane(t, plane, r, seed);
+    set_sample(plane, r, k);
 }
 
 // The three planes of a list, each from the next seed on.
