@@ -28,7 +28,7 @@ use Rattle.evc_plane.specs.Planes.{padOf, originOf, sideOf, strideOf, planeLen,
 use Rattle.evc_plane.proofs.Laws.{window-fits}
 use Rattle.evc_plane.proofs.Samples.{exceeds-none}
 use Rattle.evc_plane.proofs.Sizes.{sizes}
-use Rattle.evc_filter.specs.Filter.{phases, lead, reach}
+use Rattle.evc_filter.specs.Filter.{phases, lead, reach, interpolated, interpolatedTwice}
 use Rattle.evc_filter.specs.Code.{isRowWidth}
 use Rattle.evc_interp.specs.Prediction.{phaseOf, placeOf, isFiltered, startOf, windowOf, sampleBy, predicted, isSide, windowExceeds, mcPlaneCode, Within}
 
@@ -210,3 +210,15 @@ examined-fits k W H gmv w h s at S r good sw sh l e f g =
 pub examined-is : (k : PlaneType) (W H : ℕ) (gmv : EvcMv) (w h : ℕ) (s : List ℕ) (at S r : ℕ) → at ≡ windowOf k W H true true gmv → S ≡ strideOf k W → r ≡ reach k → exceeds s at S (w + r) (h + r) ≡ windowExceeds k W H gmv w h s
 unfolding windowExceeds
 examined-is k W H gmv w h s at S r e f g = rw (e, f, g)
+
+-- ---- predicted samples are at most 1023: a filtered one is clipped, and a copied one was examined
+
+pub predicted-small : (k : PlaneType) (W H : ℕ) (ori gmv : EvcMv) (w h : ℕ) (s d : List ℕ) → Accepted k W H gmv w h s d → (y x : ℕ) → y < h → x < w → predicted k W H ori gmv s y x ≤ 1023
+unfolding predicted sampleBy interpolated interpolatedTwice
+predicted-small k W H ori gmv w h s d g y x ly lx = go (isFiltered k (ori .x)) (isFiltered k (ori .y))
+  where
+    go : (across down : Bool) → sampleBy k across down (phaseOf k (gmv .x)) (phaseOf k (gmv .y)) s (windowOf k W H across down gmv + y * strideOf k W + x) (strideOf k W) ≤ 1023
+    go false false = path-asks k W H gmv w h s d g false false _ _ refl refl w h (omega arith) (omega arith) .1 y x ly lx
+    go true false = omega arith
+    go false true = omega arith
+    go true true = omega arith

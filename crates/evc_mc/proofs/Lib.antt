@@ -1,5 +1,3 @@
-pub mod Lists
-pub mod Small
 pub mod Checks
 pub mod Motion
 pub mod Samples

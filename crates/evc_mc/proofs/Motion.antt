@@ -1,7 +1,7 @@
 -- Equal motion: numbers of 16 bits are equal where their bits are, and clipped places of a block where the clipped vectors are. Assumes nothing.
 use mathlib.Core.Bool.{Bool, true, false, _&&_}
 use mathlib.Core.Path.{_≡_, refl, sym, ap, ap₂, subst, _∙_}
-use Prim.Native.Nat.{ℕ, suc, _-_, _*_, _<_}
+use Prim.Native.Nat.{suc, _-_, _*_, _<_}
 use native.Mathlib.Omega.{arith}
 use borrow.Author.Tests.{eqb-true, eq-eqb, ne-eqb}
 use lib.Dec.{T, eqb}

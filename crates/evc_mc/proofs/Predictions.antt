@@ -2,17 +2,15 @@
 use mathlib.Core.Bool.{Bool, true, false, not, cond, _&&_, _||_}
 use mathlib.Core.List.{List}
 use mathlib.Core.Path.{_≡_, refl, sym, ap, ap₂, subst, _∙_}
-use Prim.Native.Nat.{ℕ, _+_, _*_, _<_, _≤_}
+use Prim.Native.Nat.{ℕ, _*_, _<_, _≤_}
 use native.Mathlib.Omega.{arith}
 use lib.Dec.{T}
 use lib.ListN.{length}
 use Rattle.evc_def.specs.Codes.{firstOf, blockChecks}
 use Rattle.evc_def.specs.declared.EvcBlock.{EvcBlock}
-use Rattle.evc_clip.specs.Clip.{clippedPlace}
-use Rattle.evc_interp.proofs.Windows as windows
-use Rattle.evc_mc.specs.Block.{RefPicList, Component, typeOf, planeOf, offsetOf, widthOf, heightOf, withSamples, listSample, firstSample, sameMotion, isBi, average, listShort, listExceeds, predLen}
-use Rattle.evc_mc.specs.Pick.{either, withList, blockSample, BlockSmall}
-use Rattle.evc_mc.proofs.Small.{predicted-small}
+use Rattle.evc_interp.proofs.Windows.{accepts, predicted-small}
+use Rattle.evc_mc.specs.Block.{RefPicList, Component, typeOf, planeOf, widthOf, heightOf, withSamples, listSample, firstSample, sameMotion, isBi, average, listShort, listExceeds, predLen}
+use Rattle.evc_mc.specs.Steps.{either, withList, blockSample, BlockSmall}
 use Rattle.evc_mc.proofs.Checks.{Sides, sides, plane-accepted, list-examined}
 use Rattle.evc_mc.proofs.Samples.{component-room, component-end, samples-at, samples-ext, samples-again}
 
@@ -26,16 +24,22 @@ unfolding either
 either-second true a b e = refl
 either-second false a b e = absurd (subst T (sym e) tt)
 
+cond-true : {X : Type 0} (t : Bool) (a b : X) → t ≡ true → cond t a b ≡ a
+cond-true t a b e = ap (λ (t : Bool). cond t a b) e
+
+cond-false : {X : Type 0} (t : Bool) (a b : X) → t ≡ false → cond t a b ≡ b
+cond-false t a b e = ap (λ (t : Bool). cond t a b) e
+
 -- ---- one list
 
 module _ (b : EvcBlock) (l : RefPicList) where
   list-used : (d : List ℕ) → l .list .used ≡ true → withList b l d ≡ withSamples b (listSample b l) d
   unfolding withList
-  list-used d u = ap (λ (t : Bool). cond t (withSamples b (listSample b l) d) d) u
+  list-used d u = cond-true _ _ _ u
 
   list-unused : (d : List ℕ) → l .list .used ≡ false → withList b l d ≡ d
   unfolding withList
-  list-unused d u = ap (λ (t : Bool). cond t (withSamples b (listSample b l) d) d) u
+  list-unused d u = cond-false _ _ _ u
 
   -- its samples are at most 1023 (p is a list with room for each plane)
   list-small : (p : List ℕ) → firstOf (blockChecks b) ≡ 0 → predLen ≤ length p → listShort b l ≡ false → listExceeds b l ≡ false → l .list .used ≡ true
@@ -44,7 +48,7 @@ module _ (b : EvcBlock) (l : RefPicList) where
   list-small p e long s f u c y x ly lx =
       let g = list-examined b l _ s f refl u c in
       let room : heightOf b c * widthOf b c ≤ length p = omega (arith, component-room b (sides b e) c, component-end c) in
-      predicted-small (typeOf c) _ _ (l .list .mv) _ (widthOf b c) (heightOf b c) (planeOf c l) p (windows.accepts _ _ _ _ _ _ _ _ (plane-accepted b (typeOf c) _ (planeOf c l) p e g room)) y x ly lx
+      predicted-small (typeOf c) _ _ (l .list .mv) _ (widthOf b c) (heightOf b c) (planeOf c l) p (accepts _ _ _ _ _ _ _ _ (plane-accepted b (typeOf c) _ (planeOf c l) p e g room)) y x ly lx
 
 -- ---- both
 
@@ -66,17 +70,13 @@ module _ (b : EvcBlock) (l m : RefPicList) where
       nothing false = refl
 
   module _ (c : Component) (y x : ℕ) where
-    first-0 : isBi b (l .list) (m .list) ≡ false → l .list .used ≡ true → listSample b l c y x ≡ firstSample b l m c y x
+    first-one : isBi b (l .list) (m .list) ≡ false → cond (l .list .used) (listSample b l c y x) (listSample b m c y x) ≡ firstSample b l m c y x
     unfolding firstSample
-    first-0 e u = sym (ap (λ (t : Bool). cond t (average (listSample b l c y x) (listSample b m c y x)) (cond (l .list .used) (listSample b l c y x) (listSample b m c y x))) e ∙ ap (λ (t : Bool). cond t (listSample b l c y x) (listSample b m c y x)) u)
-
-    first-1 : isBi b (l .list) (m .list) ≡ false → l .list .used ≡ false → listSample b m c y x ≡ firstSample b l m c y x
-    unfolding firstSample
-    first-1 e u = sym (ap (λ (t : Bool). cond t (average (listSample b l c y x) (listSample b m c y x)) (cond (l .list .used) (listSample b l c y x) (listSample b m c y x))) e ∙ ap (λ (t : Bool). cond t (listSample b l c y x) (listSample b m c y x)) u)
+    first-one e = sym (cond-false _ _ _ e)
 
     first-bi : isBi b (l .list) (m .list) ≡ true → average (listSample b l c y x) (listSample b m c y x) ≡ firstSample b l m c y x
     unfolding firstSample
-    first-bi e = sym (ap (λ (t : Bool). cond t (average (listSample b l c y x) (listSample b m c y x)) (cond (l .list .used) (listSample b l c y x) (listSample b m c y x))) e)
+    first-bi e = sym (cond-true _ _ _ e)
 
   module _ (p q : List ℕ) where
     -- what the call leaves in the two blocks
@@ -84,7 +84,7 @@ module _ (b : EvcBlock) (l m : RefPicList) where
     Left d e = (d ≡ withSamples b (firstSample b l m) p) × (e ≡ cond (isBi b (l .list) (m .list)) (withSamples b (listSample b m) q) q)
 
     kept : isBi b (l .list) (m .list) ≡ false → q ≡ cond (isBi b (l .list) (m .list)) (withSamples b (listSample b m) q) q
-    kept e = sym (ap (λ (t : Bool). cond t (withSamples b (listSample b m) q) q) e)
+    kept e = sym (cond-false _ _ _ e)
 
     module _ (a₀ a₁ : List ℕ) (e₀ : a₀ ≡ either false (withList b l p) p) (e₁ : a₁ ≡ either false q (withList b l q)) where
       first-is : a₀ ≡ withList b l p
@@ -95,7 +95,7 @@ module _ (b : EvcBlock) (l m : RefPicList) where
 
       -- list 0 alone
       pub stands : l .list .used ≡ true → isBi b (l .list) (m .list) ≡ false → Left a₀ a₁
-      stands u n = (first-is ∙ list-used b l p u ∙ samples-ext b _ _ p (λ c y x ly lx. first-0 c y x n u), second-is ∙ kept n)
+      stands u n = (first-is ∙ list-used b l p u ∙ samples-ext b _ _ p (λ c y x ly lx. sym (cond-true _ _ _ u) ∙ first-one c y x n), second-is ∙ kept n)
 
       module _ (b₀ b₁ : List ℕ) (f₀ : b₀ ≡ either (l .list .used) (withList b m a₀) a₀) (f₁ : b₁ ≡ either (l .list .used) a₁ (withList b m a₁)) where
         -- one list is in use
@@ -108,7 +108,7 @@ module _ (b : EvcBlock) (l m : RefPicList) where
                 let r = stands u (not-both n) in
                 (f₀ ∙ either-second _ _ _ u ∙ r .0, f₁ ∙ either-second _ _ _ u ∙ list-unused b m a₁ w ∙ r .1)
             go false true u w s k = (
-              f₀ ∙ either-first _ _ _ u ∙ list-used b m a₀ w ∙ ap (withSamples b (listSample b m)) (first-is ∙ list-unused b l p u) ∙ samples-ext b _ _ p (λ c y x ly lx. first-1 c y x (not-both n) u),
+              f₀ ∙ either-first _ _ _ u ∙ list-used b m a₀ w ∙ ap (withSamples b (listSample b m)) (first-is ∙ list-unused b l p u) ∙ samples-ext b _ _ p (λ c y x ly lx. sym (cond-false _ _ _ u) ∙ first-one c y x (not-both n)),
               f₁ ∙ either-first _ _ _ u ∙ second-is ∙ kept (not-both n),
             )
             go false false u w s k = absurd (subst T (sym s) tt)
@@ -140,5 +140,5 @@ module _ (b : EvcBlock) (l m : RefPicList) where
               g ∙ ap (withSamples b (λ (c : Component) (y x : ℕ). average (blockSample b b₀ c y x) (blockSample b b₁ c y x))) both-0
                   ∙ samples-again b z (listSample b l) _ p
                   ∙ samples-ext b _ _ p (λ c y x ly lx. ap₂ average (at-0 c y x ly lx) (at-1 c y x ly lx) ∙ first-bi c y x bi),
-              both-1 ∙ sym (ap (λ (t : Bool). cond t (withSamples b (listSample b m) q) q) bi),
+              both-1 ∙ sym (cond-true _ _ _ bi),
             )

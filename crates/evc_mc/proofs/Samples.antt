@@ -6,12 +6,10 @@ use Prim.Native.Nat.{ℕ, _+_, _*_, _/_, _<_, _≤_}
 use native.Mathlib.Nat.{mul-le-mul}
 use native.Mathlib.Omega.{arith}
 use lib.ListN.{length, getD}
-use Rattle.evc_int.specs.Lists.{withBlock}
-use Rattle.evc_int.proofs.Lists.{length-withBlock, withBlock-ext, withBlock-in, row-fits}
+use Rattle.evc_int.proofs.Lists.{length-withBlock, withBlock-ext, withBlock-in, row-fits, withBlock-again, withBlock-apart, withBlock-before}
 use Rattle.evc_def.specs.declared.EvcBlock.{EvcBlock}
 use Rattle.evc_mc.specs.Block.{Component, luma, cb, cr, offsetOf, widthOf, heightOf, withComponent, withSamples, predLen}
-use Rattle.evc_mc.specs.Pick.{blockSample}
-use Rattle.evc_mc.proofs.Lists.{withBlock-again, withBlock-apart, withBlock-before}
+use Rattle.evc_mc.specs.Steps.{blockSample}
 use Rattle.evc_mc.proofs.Checks.{Sides}
 
 -- where a component ends

@@ -1,2 +1,2 @@
 pub mod Block
-pub mod Pick
+pub mod Steps

@@ -1,5 +1,5 @@
 ghost use mathlib.Core.Path.{_≡_};
-ghost use mathlib.Core.Bool.{true, false, cond, _&&_};
+ghost use mathlib.Core.Bool.{false, cond, _&&_};
 ghost use lib.Dec.{eqb};
 ghost use Rattle.evc_int.specs.Whole.{eqZ};
 ghost use Prim.Native.Nat.{ℕ, _+_, _*_, _≤_};
@@ -13,8 +13,8 @@ ghost use Rattle.evc_def.specs.Codes.{firstOf, blockChecks};
 ghost use Rattle.evc_plane.specs.Planes.{sideOf};
 ghost use Rattle.evc_clip.specs.Clip.{clippedPlace};
 ghost use Rattle.evc_interp.specs.Prediction.{predicted, mcPlaneCode};
-ghost use Rattle.evc_mc.specs.Block.{RefPicList, refPicList, Component, withSamples, listSample, firstSample, sameMotion, isBi, average, predLen, listShort, pocExceeds, listExceeds, mc2Code, mc2First, mc2Second};
-ghost use Rattle.evc_mc.specs.Pick.{either, Examined, ListExamined, withList, blockSample, RowSmall, BlockSmall};
+ghost use Rattle.evc_mc.specs.Block.{refPicList, Component, withSamples, listSample, firstSample, isBi, average, predLen, listShort, pocExceeds, listExceeds, mc2Code, mc2First, mc2Second};
+ghost use Rattle.evc_mc.specs.Steps.{either, Examined, ListExamined, withList, blockSample, RowSmall, BlockSmall};
 use evc_def::EvcBlock;
 use evc_def::EvcMv;
 use evc_def::MAX_POC;
@@ -100,9 +100,9 @@ fn mc2_code(
 ) -> u32
     ensures { λ r. ⌜ r ≡ mc2Code b (refPicList list0 (now (y0 .entry)) (now (u0 .entry)) (now (v0 .entry))) (refPicList list1 (now (y1 .entry)) (now (u1 .entry)) (now (v1 .entry))) (now (pred0 .entry)) (now (pred1 .entry)) ⌝ }
 {
-    let code = evc_def::block_code(b);
-    if code != 0 {
-        return code;
+    let block_code = evc_def::block_code(b);
+    if block_code != 0 {
+        return block_code;
     }
     if !(list0.used | list1.used) {
         return 3;
@@ -125,7 +125,7 @@ fn mc2_code(
 
 // ---- the prediction of one list
 
-// One picker handing back either of the two lent parts.
+// One picker handing back either of the two lent parts, which are cut at the plane's offset where they are lent.
 fn pick<'a>(a: &'a mut [u16], b: &'a mut [u16], second: bool) -> &'a mut [u16]
     ensures { λ r. ⌜ r ≡ either second (a .entry) (b .entry) ⌝ }
 {
@@ -151,15 +151,15 @@ fn predict_picked(
     evc_interp::predict(t, b.pic_w, b.pic_h, ori_mv, gmv, w, h, plane, pred);
 }
 
-// The end of a part: e where it is wanted, and o, for an empty part, where it is not.
-fn end_if(wanted: bool, o: usize, e: usize) -> usize
-    requires { ⌜ o ≤ e ⌝ }
-    ensures { λ r. ⌜ (r ≡ either wanted o e) × (o ≤ r) × (r ≤ e) ⌝ }
+// The end of a part: its end where it is wanted, and its start, for an empty part, where it is not.
+fn end_if(wanted: bool, start: usize, end: usize) -> usize
+    requires { ⌜ start ≤ end ⌝ }
+    ensures { λ r. ⌜ (r ≡ either wanted start end) × (start ≤ r) × (r ≤ end) ⌝ }
 {
-    if wanted { e } else { o }
+    if wanted { end } else { start }
 }
 
-// One plane of a list to its place o in the picked block. Of the other block an empty part is lent.
+// One plane of a list to the picked block, at the plane's offset. Of the other block an empty part is lent.
 fn predict_component(
     t: PlaneType,
     b: EvcBlock,
@@ -169,19 +169,19 @@ fn predict_component(
     pred0: &mut [u16],
     pred1: &mut [u16],
     second: bool,
-    o: usize,
+    offset: usize,
 )
     requires { ⌜ firstOf (blockChecks b) ≡ 0 ⌝ }
     requires { ⌜ Examined b t gmv (now plane) ⌝ }
-    requires { ⌜ (o + sideOf t (b .h) * sideOf t (b .w) ≤ length (now pred0)) × (o + sideOf t (b .h) * sideOf t (b .w) ≤ length (now pred1)) ⌝ }
-    ensures { λ _. ⌜ now (pred0 .exit) ≡ either second (withBlock (now (pred0 .entry)) o (sideOf t (b .w)) (sideOf t (b .w)) (sideOf t (b .h)) (predicted t (b .«pic_w») (b .«pic_h») «ori_mv» gmv (now (plane .entry)))) (now (pred0 .entry)) ⌝ }
-    ensures { λ _. ⌜ now (pred1 .exit) ≡ either second (now (pred1 .entry)) (withBlock (now (pred1 .entry)) o (sideOf t (b .w)) (sideOf t (b .w)) (sideOf t (b .h)) (predicted t (b .«pic_w») (b .«pic_h») «ori_mv» gmv (now (plane .entry)))) ⌝ }
+    requires { ⌜ (offset + sideOf t (b .h) * sideOf t (b .w) ≤ length (now pred0)) × (offset + sideOf t (b .h) * sideOf t (b .w) ≤ length (now pred1)) ⌝ }
+    ensures { λ _. ⌜ now (pred0 .exit) ≡ either second (withBlock (now (pred0 .entry)) offset (sideOf t (b .w)) (sideOf t (b .w)) (sideOf t (b .h)) (predicted t (b .«pic_w») (b .«pic_h») «ori_mv» gmv (now (plane .entry)))) (now (pred0 .entry)) ⌝ }
+    ensures { λ _. ⌜ now (pred1 .exit) ≡ either second (now (pred1 .entry)) (withBlock (now (pred1 .entry)) offset (sideOf t (b .w)) (sideOf t (b .w)) (sideOf t (b .h)) (predicted t (b .«pic_w») (b .«pic_h») «ori_mv» gmv (now (plane .entry)))) ⌝ }
 {
     let w = evc_plane::side(t, b.w);
     let h = evc_plane::side(t, b.h);
-    let e = o + h * w;
-    let e0 = end_if(!second, o, e);
-    let e1 = end_if(second, o, e);
+    let end = offset + h * w;
+    let end0 = end_if(!second, offset, end);
+    let end1 = end_if(second, offset, end);
     predict_picked(
         t,
         b,
@@ -190,8 +190,8 @@ fn predict_component(
         w,
         h,
         plane,
-        &mut pred0[o..e0],
-        &mut pred1[o..e1],
+        &mut pred0[offset..end0],
+        &mut pred1[offset..end1],
         second,
     );
 }
@@ -218,23 +218,23 @@ fn predict_list(
         return;
     }
     let mv = list.mv;
-    let o_u = evc_def::cu_dim_offset(1);
-    let o_v = evc_def::cu_dim_offset(2);
+    let offset_u = evc_def::cu_dim_offset(1);
+    let offset_v = evc_def::cu_dim_offset(2);
     predict_component(PlaneType::Y, b, mv, gmv, y, pred0, pred1, second, 0);
-    predict_component(PlaneType::UV, b, mv, gmv, u, pred0, pred1, second, o_u);
-    predict_component(PlaneType::UV, b, mv, gmv, v, pred0, pred1, second, o_v);
+    predict_component(PlaneType::UV, b, mv, gmv, u, pred0, pred1, second, offset_u);
+    predict_component(PlaneType::UV, b, mv, gmv, v, pred0, pred1, second, offset_v);
 }
 
 // ---- two predictions
 
-// n samples of both blocks from o on: the first block gets the average.
-fn average_plane(pred0: &mut [u16], pred1: &[u16], o: usize, n: usize)
-    requires { ⌜ (o + n ≤ length (now pred0)) × (o + n ≤ length (now pred1)) ⌝ }
-    requires { ⌜ RowSmall (now pred0) o n × RowSmall (now pred1) o n ⌝ }
-    ensures { λ _. ⌜ now (pred0 .exit) ≡ withRow (now (pred0 .entry)) o n (λ (i : ℕ). average (getD (now (pred0 .entry)) (o + i) 0) (getD (now (pred1 .entry)) (o + i) 0)) ⌝ }
+// n samples of both blocks from an offset on: the first block gets the average.
+fn average_plane(pred0: &mut [u16], pred1: &[u16], offset: usize, n: usize)
+    requires { ⌜ (offset + n ≤ length (now pred0)) × (offset + n ≤ length (now pred1)) ⌝ }
+    requires { ⌜ RowSmall (now pred0) offset n × RowSmall (now pred1) offset n ⌝ }
+    ensures { λ _. ⌜ now (pred0 .exit) ≡ withRow (now (pred0 .entry)) offset n (λ (i : ℕ). average (getD (now (pred0 .entry)) (offset + i) 0) (getD (now (pred1 .entry)) (offset + i) 0)) ⌝ }
 {
     for i in 0..n {
-        pred0[o + i] = (pred0[o + i] + pred1[o + i] + 1) >> 1;
+        pred0[offset + i] = (pred0[offset + i] + pred1[offset + i] + 1) >> 1;
     }
 }
 
@@ -247,11 +247,11 @@ fn average_block(b: EvcBlock, pred0: &mut [u16], pred1: &[u16])
     let w = b.w as usize;
     let h = b.h as usize;
     let chroma = (h / 2) * (w / 2);
-    let o_u = evc_def::cu_dim_offset(1);
-    let o_v = evc_def::cu_dim_offset(2);
+    let offset_u = evc_def::cu_dim_offset(1);
+    let offset_v = evc_def::cu_dim_offset(2);
     average_plane(pred0, pred1, 0, h * w);
-    average_plane(pred0, pred1, o_u, chroma);
-    average_plane(pred0, pred1, o_v, chroma);
+    average_plane(pred0, pred1, offset_u, chroma);
+    average_plane(pred0, pred1, offset_v, chroma);
 }
 
 // Equal counts, and equal clipped vectors: equal places of the same block.
@@ -284,6 +284,7 @@ fn predict_lists(
     let gmv1 = clipped_place(b, list1.mv);
     let both = list0.used & list1.used;
     predict_list(b, list0, gmv0, y0, u0, v0, pred0, pred1, false);
+    // Identical motion: list 0 alone stands.
     if both & same_motion(list0, gmv0, list1, gmv1) {
         return;
     }
@@ -315,5 +316,5 @@ pub fn evc_mc2(
         return code;
     }
     predict_lists(block, list0, y0, u0, v0, list1, y1, u1, v1, pred0, pred1);
-    0
+    code
 }

@@ -1,19 +1,18 @@
 -- `evc_mc::average_block` meets its contract: each plane is averaged as one run, and no plane's samples are touched by another's. Assumes nothing.
-use Prim.Native.Nat.{ℕ, _+_, _*_, _<_, _≤_}
+use Prim.Native.Nat.{ℕ, _+_, _*_, _≤_}
 use mathlib.Core.List.{List}
 use mathlib.Core.Logic.{inr}
 use mathlib.Core.Path.{_≡_, refl, sym, ap, subst, _∙_}
 use native.Mathlib.Omega.{arith}
 use borrow.Author.Needs.{needs}
-use lib.ListN.{length, getD}
+use lib.ListN.{getD}
 use Rattle.evc_int.specs.Lists.{withRow, withBlock}
-use Rattle.evc_int.proofs.Lists.{withRow-ext, withRow-out, withBlock-ext}
+use Rattle.evc_int.proofs.Lists.{withRow-ext, withRow-out, withBlock-ext, withBlock-run, run-each}
 use Rattle.evc_def.specs.declared.EvcBlock.{EvcBlock}
 use Rattle.evc_mc.specs.Block.{Component, luma, cb, cr, offsetOf, widthOf, heightOf, withComponent, withSamples, average}
-use Rattle.evc_mc.specs.Pick.{blockSample, RowSmall, BlockSmall}
-use Rattle.evc_mc.proofs.Lists.{withBlock-run, run-each}
+use Rattle.evc_mc.specs.Steps.{blockSample, RowSmall, BlockSmall}
 use Rattle.evc_mc.proofs.Checks.{Sides, sides}
-use Rattle.evc_mc.proofs.Samples.{endOf, sizeOf, component-room}
+use Rattle.evc_mc.proofs.Samples.{sizeOf, component-room}
 use Rattle.evc_mc.proofs.average_block.Statement.{statement}
 use Rattle.evc_mc.proofs.average_block.Tie as tie
 

@@ -1,5 +1,5 @@
 -- `evc_mc::average_plane` meets its contract. The invariant: the first i samples are averaged. Assumes nothing.
-use Prim.Native.Nat.{ℕ, _+_, _-_, _/_, _<_, _≤_}
+use Prim.Native.Nat.{ℕ, _+_, _-_, _<_, _≤_}
 use mathlib.Core.List.{List}
 use mathlib.Core.Logic.{inr}
 use mathlib.Core.Path.{_≡_, refl, ap, _∙_}
@@ -26,7 +26,7 @@ unfolding withRow
 loop-holds c = (omega arith, refl, refl)
 
 -- both samples are at most 1023
-small : (c : tie.In-loop Inv-loop μ-loop) → let s = c .before .before in let i = c .before .loop .i in (getD (c .before .loop .pred0) (s .args .o + i) 0 ≤ 1023) × (getD (s .args .pred1 .now) (s .args .o + i) 0 ≤ 1023)
+small : (c : tie.In-loop Inv-loop μ-loop) → let s = c .before .before in let i = c .before .loop .i in (getD (c .before .loop .pred0) (s .args .offset + i) 0 ≤ 1023) × (getD (s .args .pred1 .now) (s .args .offset + i) 0 ≤ 1023)
 small c =
     let s = c .before .before in
     let i = c .before .loop .i in
@@ -43,7 +43,7 @@ loop-again : tie.Need-loop-again Inv-loop μ-loop
 loop-again c =
     let i = c .before .before .before .loop .inv in
     let s = c .before .before .before .before in
-    (omega arith, simp length-set (i .1), row-step _ _ _ _ _ _ (i .2) (ap (λ (v : ℕ). average v (getD (s .args .pred1 .now) (s .args .o + c .before .before .before .loop .i) 0)) (still _ _ _ _ _ (i .2))))
+    (omega arith, simp length-set (i .1), row-step _ _ _ _ _ _ (i .2) (ap (λ (v : ℕ). average v (getD (s .args .pred1 .now) (s .args .offset + c .before .before .before .loop .i) 0)) (still _ _ _ _ _ (i .2))))
 
 returns : tie.Need-returns Inv-loop μ-loop
 returns c = let i = c .before .loop .inv in row-done _ _ _ _ _ _ (i .2) (i .0) (c .loop-test .left)

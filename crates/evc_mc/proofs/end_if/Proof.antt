@@ -1,6 +1,6 @@
 -- `evc_mc::end_if` meets its contract. Assumes nothing.
 use borrow.Author.Needs.{needs}
-use Rattle.evc_mc.specs.Pick.{either}
+use Rattle.evc_mc.specs.Steps.{either}
 use Rattle.evc_mc.proofs.end_if.Statement.{statement}
 use Rattle.evc_mc.proofs.end_if.Tie as tie
 

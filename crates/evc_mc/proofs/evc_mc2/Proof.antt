@@ -1,5 +1,5 @@
 -- `evc_mc::evc_mc2` meets its contract: refused and both blocks untouched, or predicted. Assumes nothing.
-use mathlib.Core.Bool.{Bool, cond, _&&_}
+use mathlib.Core.Bool.{cond}
 use mathlib.Core.List.{List}
 use mathlib.Core.Path.{_≡_, refl, sym, _∙_}
 use Prim.Native.Nat.{ℕ}
@@ -34,7 +34,7 @@ returns-2 c =
     let k = c .before .before .before .before in
     let e = k .before .before .before in
     let a = e .before .before .before .before .before .before .before .before .before .before .before .before .args in
-    (sym (accepted e), predicted (a .block) (refPicList (a .list0) (a .y0 .now) (a .u0 .now) (a .v0 .now)) (refPicList (a .list1) (a .y1 .now) (a .u1 .now) (a .v1 .now)) (a .pred0 .now) (a .pred1 .now) (accepted e) _ _ (k .predict-lists .ensures .0) (k .predict-lists .ensures .1))
+    (e .before .mc2-code .ensures, predicted (a .block) (refPicList (a .list0) (a .y0 .now) (a .u0 .now) (a .v0 .now)) (refPicList (a .list1) (a .y1 .now) (a .u1 .now) (a .v1 .now)) (a .pred0 .now) (a .pred1 .now) (accepted e) _ _ (k .predict-lists .ensures .0) (k .predict-lists .ensures .1))
 
 pub evc-mc2-spec : {M : Type 1} → statement M
 evc-mc2-spec =

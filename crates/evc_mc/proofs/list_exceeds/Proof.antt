@@ -1,11 +1,10 @@
 -- `evc_mc::list_exceeds` meets its contract. Assumes nothing.
 use mathlib.Core.Bool.{Bool, true, false, _||_}
-use mathlib.Core.Path.{_≡_, sym}
+use mathlib.Core.Path.{_≡_}
 use borrow.Author.Needs.{needs}
 use borrow.Author.Tests.{not-true, not-false}
 use Rattle.evc_def.specs.declared.EvcBlock.{EvcBlock}
 use Rattle.evc_def.specs.declared.EvcMv.{EvcMv}
-use Rattle.evc_plane.specs.Planes.{planeLen}
 use Rattle.evc_plane.specs.declared.PlaneType.the-variants.{Y, UV}
 use Rattle.evc_clip.specs.Clip.{clippedPlace}
 use Rattle.evc_interp.specs.Prediction.{windowExceeds}

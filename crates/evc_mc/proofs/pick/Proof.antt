@@ -1,5 +1,5 @@
 -- `evc_mc::pick` meets its contract. Assumes nothing.
-use Rattle.evc_mc.specs.Pick.{either}
+use Rattle.evc_mc.specs.Steps.{either}
 use Rattle.evc_mc.proofs.pick.Statement.{statement}
 use Rattle.evc_mc.proofs.pick.Tie as tie
 

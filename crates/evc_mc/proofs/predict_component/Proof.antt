@@ -16,8 +16,8 @@ use Rattle.evc_def.specs.Codes.{firstOf, blockChecks}
 use Rattle.evc_plane.specs.Planes.{sideOf}
 use Rattle.evc_plane.specs.declared.PlaneType.{PlaneType}
 use Rattle.evc_interp.specs.Prediction.{mcPlaneCode}
-use Rattle.evc_mc.specs.Pick.{either, Examined}
-use Rattle.evc_mc.proofs.Lists.{withBlock-part}
+use Rattle.evc_mc.specs.Steps.{either, Examined}
+use Rattle.evc_int.proofs.Lists.{withBlock-part}
 use Rattle.evc_mc.proofs.Checks.{plane-accepted}
 use Rattle.evc_mc.proofs.predict_component.Statement.{statement}
 use Rattle.evc_mc.proofs.predict_component.Tie as tie
@@ -93,11 +93,11 @@ h-is : (c : tie.After-side2) → c .side2 .result ≡ sideOf (start c .args .t) 
 h-is c = c .side2 .ensures
 
 -- there is room for the part in both blocks
-room : (c : tie.After-side2) → let a = start c .args in let n = c .side2 .result * c .before .side .result in (a .o + n ≤ length (a .pred0 .now)) × (a .o + n ≤ length (a .pred1 .now))
+room : (c : tie.After-side2) → let a = start c .args in let n = c .side2 .result * c .before .side .result in (a .offset + n ≤ length (a .pred0 .now)) × (a .offset + n ≤ length (a .pred1 .now))
 room c =
     let s = start c in
     let e : c .side2 .result * c .before .side .result ≡ sideOf (s .args .t) (s .args .b .h) * sideOf (s .args .t) (s .args .b .w) = ap₂ _*_ (h-is c) (w-is c) in
-    (subst (λ (n : ℕ). s .args .o + n ≤ length (s .args .pred0 .now)) (sym e) (s .pre .1 .1 .0), subst (λ (n : ℕ). s .args .o + n ≤ length (s .args .pred1 .now)) (sym e) (s .pre .1 .1 .1))
+    (subst (λ (n : ℕ). s .args .offset + n ≤ length (s .args .pred0 .now)) (sym e) (s .pre .1 .1 .0), subst (λ (n : ℕ). s .args .offset + n ≤ length (s .args .pred1 .now)) (sym e) (s .pre .1 .1 .1))
 
 predict-picked-requires : tie.Need-predict-picked-requires
 predict-picked-requires c κs =
@@ -106,7 +106,7 @@ predict-picked-requires c κs =
     let a = s .args in
     let r = room k in
     accepted-sides (a .b) (a .t) (a .gmv) (a .plane .now) _ _ _ (w-is k) (h-is k) (s .pre .0) (s .pre .1 .0)
-    (picked-length (a .o) _ _ (a .second) (a .pred0 .now) (a .pred1 .now) _ _ (r .0) (r .1) (c .before .before .before .end-if .ensures .0) (c .before .before .end-if2 .ensures .0))
+    (picked-length (a .offset) _ _ (a .second) (a .pred0 .now) (a .pred1 .now) _ _ (r .0) (r .1) (c .before .before .before .end-if .ensures .0) (c .before .before .end-if2 .ensures .0))
 
 returns : tie.Need-returns
 returns c =
@@ -114,7 +114,7 @@ returns c =
     let k = d .before .before .before .before .before in
     let s = start k in
     let a = s .args in
-    after-sides (a .o) _ _ _ _ (w-is k) (h-is k) _ (a .second) (a .pred0 .now) (a .pred1 .now) _ _ _ _ (s .pre .1 .1 .0) (s .pre .1 .1 .1)
+    after-sides (a .offset) _ _ _ _ (w-is k) (h-is k) _ (a .second) (a .pred0 .now) (a .pred1 .now) _ _ _ _ (s .pre .1 .1 .0) (s .pre .1 .1 .1)
     (d .before .before .before .before .end-if .ensures .0) (d .before .before .before .end-if2 .ensures .0)
     (d .predict-picked .kept .1 .1 .1 .1 .1 .1 .1 .0) (d .predict-picked .kept .1 .1 .1 .1 .1 .1 .1 .1 .0) (d .predict-picked .ensures)
 

@@ -1,20 +1,18 @@
 -- `evc_mc::predict_list` meets its contract: nothing for a list that is not in use, else its three planes. Assumes nothing.
-use Prim.Native.Nat.{ℕ, _+_, _*_, _≤_}
+use Prim.Native.Nat.{ℕ}
 use mathlib.Core.Bool.{Bool, true, false, cond}
 use mathlib.Core.List.{List}
 use mathlib.Core.Path.{_≡_, refl, sym, ap, _∙_}
 use native.Mathlib.Omega.{arith}
 use borrow.Author.Needs.{needs}
 use borrow.Author.Tests.{not-true, not-false}
-use lib.ListN.{length}
 use Rattle.evc_int.specs.Lists.{withBlock}
 use Rattle.evc_def.specs.declared.EvcBlock.{EvcBlock}
 use Rattle.evc_def.specs.declared.EvcMv.{EvcMv}
-use Rattle.evc_plane.specs.declared.PlaneType.the-variants.{UV}
 use Rattle.evc_clip.specs.Clip.{clippedPlace}
 use Rattle.evc_interp.specs.Prediction.{predicted}
 use Rattle.evc_mc.specs.Block.{RefPicList, refPicList, Component, luma, cb, cr, typeOf, planeOf, offsetOf, widthOf, heightOf, withComponent, withSamples, listSample}
-use Rattle.evc_mc.specs.Pick.{either, withList}
+use Rattle.evc_mc.specs.Steps.{either, withList}
 use Rattle.evc_mc.proofs.Checks.{sides}
 use Rattle.evc_mc.proofs.Samples.{component-room}
 use Rattle.evc_mc.proofs.predict_list.Statement.{statement}

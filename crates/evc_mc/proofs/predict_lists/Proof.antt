@@ -1,10 +1,9 @@
 -- `evc_mc::predict_lists` meets its contract: list 0 alone for equal motion, one list, or two and their average. Assumes nothing.
-use mathlib.Core.Bool.{Bool, true, false, _&&_}
-use mathlib.Core.Path.{_≡_, sym, ap, _∙_}
+use mathlib.Core.Bool.{_&&_}
+use mathlib.Core.Path.{_≡_, sym, _∙_}
 use native.Mathlib.Omega.{arith}
 use borrow.Author.Needs.{needs}
-use lib.ListN.{length}
-use Rattle.evc_mc.specs.Block.{refPicList, sameMotion, predLen}
+use Rattle.evc_mc.specs.Block.{refPicList, sameMotion}
 use Rattle.evc_mc.proofs.Checks.{Accepted, accepts, and-true, sides, list-examined, unused}
 use Rattle.evc_mc.proofs.Motion.{same-motion-is}
 use Rattle.evc_mc.proofs.Predictions.{not-same, same, stands, single, both-small, averaged}

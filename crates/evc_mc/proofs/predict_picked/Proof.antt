@@ -8,7 +8,7 @@ use borrow.Author.Needs.{needs}
 use denote.Ref.{RefT}
 use Rattle.evc_int.specs.Lists.{withBlock}
 use Rattle.evc_interp.specs.Prediction.{predicted, mcPlaneCode}
-use Rattle.evc_mc.specs.Pick.{either}
+use Rattle.evc_mc.specs.Steps.{either}
 use Rattle.evc_mc.proofs.predict_picked.Statement.{statement}
 use Rattle.evc_mc.proofs.predict_picked.Tie as tie
 

@@ -1,6 +1,6 @@
 -- `evc_mc::same_motion` meets its contract. Assumes nothing.
 use mathlib.Core.Bool.{Bool, _&&_}
-use mathlib.Core.Path.{_≡_, ap₂}
+use mathlib.Core.Path.{ap₂}
 use borrow.Author.Needs.{needs}
 use lib.Dec.{eqb}
 use mir.Syntax.{w16}
