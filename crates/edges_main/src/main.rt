@@ -127,13 +127,22 @@ fn print_vectors(b: EvcBlock) {
 }
 
 fn print_padding(b: EvcBlock, luma: &mut [u16], chroma: &mut [u16]) {
-    print(b" padding luma ", evc_plane::pad(PlaneType::Y, b.pic_w, b.pic_h, luma));
-    print(b", padding chroma ", evc_plane::pad(PlaneType::UV, b.pic_w, b.pic_h, chroma));
+    print(
+        b" padding luma ",
+        evc_plane::pad(PlaneType::Y, b.pic_w, b.pic_h, luma),
+    );
+    print(
+        b", padding chroma ",
+        evc_plane::pad(PlaneType::UV, b.pic_w, b.pic_h, chroma),
+    );
 }
 
 fn print_prediction(b: EvcBlock, luma: &[u16], chroma: &[u16]) {
     print(b", luma plane ", one_plane(PlaneType::Y, b, b.w, b.h, luma));
-    print(b", chroma plane ", one_plane(PlaneType::UV, b, b.w / 2, b.h / 2, chroma));
+    print(
+        b", chroma plane ",
+        one_plane(PlaneType::UV, b, b.w / 2, b.h / 2, chroma),
+    );
     print(b", block ", block(b, 0, luma, chroma));
 }
 
@@ -207,23 +216,43 @@ fn sample_line(sample: u16, luma: &mut [u16], chroma: &mut [u16]) {
     end_line();
 }
 
-fn lines(luma: &mut [u16], chroma: &mut [u16]) {
+fn width_lines(luma: &mut [u16], chroma: &mut [u16]) {
     width_line(8128, luma, chroma);
     width_line(8132, luma, chroma);
+}
+
+fn side_lines(luma: &[u16], chroma: &[u16]) {
     side_line(64, luma, chroma);
     side_line(12, luma, chroma);
     side_line(128, luma, chroma);
+}
+
+fn count_lines(luma: &[u16], chroma: &[u16]) {
     count_line(32767, luma, chroma);
     count_line(32768, luma, chroma);
+}
+
+fn sample_lines(luma: &mut [u16], chroma: &mut [u16]) {
     sample_line(1023, luma, chroma);
     sample_line(1024, luma, chroma);
 }
 
-fn main() {
+fn lines(luma: &mut [u16], chroma: &mut [u16]) {
+    width_lines(luma, chroma);
+    side_lines(luma, chroma);
+    count_lines(luma, chroma);
+    sample_lines(luma, chroma);
+}
+
+fn strides() {
     print_stride(b"luma width ", PlaneType::Y, 4);
     print_stride(b"luma width ", PlaneType::Y, 8128);
     print_stride(b"chroma width ", PlaneType::UV, 4);
     print_stride(b"chroma width ", PlaneType::UV, 8128);
+}
+
+fn main() {
+    strides();
     let mut luma = [0u16; LUMA_LEN];
     let mut chroma = [0u16; CHROMA_LEN];
     lines(&mut luma, &mut chroma);
