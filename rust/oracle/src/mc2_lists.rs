@@ -108,47 +108,44 @@ struct List {
 }
 
 impl List {
-    fn record(&mut self, numbers: [u16; 16]) {
+    /// Sixteen numbers, in the parts that belong together.
+    fn record(&mut self, parts: &[&[u16]]) {
+        let numbers = parts.concat();
+        assert_eq!(numbers.len(), 16);
         self.records
             .extend(numbers.iter().flat_map(|n| n.to_le_bytes()));
     }
 
     /// Planes and the calls on them. Where document 01 refuses nothing, the Rust has to agree.
     fn push(&mut self, lent: &Lent, cases: &[Case]) {
-        let [pic_w, pic_h] = lent.pic.map(narrow);
-        let [y0, u0, v0, y1, u1, v1] = lent.len.map(small);
         let set = lent.set.map_or([6, 0, 0], |set| {
             [small(set.plane), small(set.place), set.value]
         });
-        self.record([
-            pic_w,
-            pic_h,
-            lent.seed[0],
-            lent.seed[1],
-            lent.limit,
-            u16::from(lent.padded),
-            y0,
-            u0,
-            v0,
-            y1,
-            u1,
-            v1,
-            set[0],
-            set[1],
-            set[2],
-            small(cases.len()),
+        self.record(&[
+            &lent.pic.map(narrow),
+            &lent.seed,
+            &[lent.limit, u16::from(lent.padded)],
+            &lent.len.map(small),
+            &set,
+            &[small(cases.len())],
         ]);
         let samples = lent.samples();
         let planes = [0, 3].map(|first| [0, 1, 2].map(|k| &samples[first + k][..]));
         let mut pictures = None;
         for Case { c, len, seed } in cases {
-            let [[x, y], [w, h], poc] = [c.b.place, c.b.side, c.poc].map(|pair| pair.map(narrow));
-            let used = u16::from(c.used[0]) + 2 * u16::from(c.used[1]);
-            let mv = c.mv.map(|mv| mv.map(|v| v as u16));
-            let len16 = len.map(small);
-            self.record([
-                x, y, w, h, used, mv[0][0], mv[0][1], poc[0], mv[1][0], mv[1][1], poc[1], len16[0],
-                len16[1], seed[0], seed[1], 0,
+            let [used0, used1] = c.used.map(u16::from);
+            let lists = [0, 1].map(|k| {
+                let [mvx, mvy] = c.mv[k].map(|v| v as u16);
+                [mvx, mvy, narrow(c.poc[k])]
+            });
+            self.record(&[
+                &c.b.place.map(narrow),
+                &c.b.side.map(narrow),
+                &[used0 + 2 * used1],
+                &lists.concat(),
+                &len.map(small),
+                seed,
+                &[0],
             ]);
 
             let [mut pred0, mut pred1] = [0, 1].map(|k| arbitrary(len[k], seed[k]));
