@@ -424,7 +424,7 @@ fn refusals() {
     }
 }
 
-/// 6: a sample of 1024 at each place of each plane of each list. List 1's windows count also where
+/// 6: a sample of 1024 in and around each window, of each plane of each list. List 1's count also where
 /// list 0 alone stands.
 #[test]
 fn examined_samples() {
