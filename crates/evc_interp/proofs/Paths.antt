@@ -192,7 +192,11 @@ first-row UV h stride = omega (arith, row-fits {y = 0} {h = h + 3} stride (omega
 pub full : (w cg : ℕ) → isRowWidth w ≡ true → 8 ≤ w → cg % 8 ≡ 0 → w < cg + 8 → w ≤ cg
 full w cg e l m t = let d = eights w e (λ f. absurd (omega arith)) (λ f. absurd (omega arith)) .1 in omega arith
 
--- the first stage's numbers fit the array of a plane's type
+-- the first stage's numbers fit the array of a low block, and that of a plane's type
+pub low-fits : (k : PlaneType) (h : ℕ) → h ≤ 8 → (h + reach k) * 8 ≤ 104
+low-fits Y h l = omega arith
+low-fits UV h l = omega arith
+
 pub stage-fits : (k j : PlaneType) (h : ℕ) → k ≡ j → h ≤ sideOf k 64 → (h ≤ 64) × ((h + reach k) * 8 ≤ (sideOf j 64 + reach j) * 8)
 stage-fits k j h e = subst (λ (k : PlaneType). h ≤ sideOf k 64 → (h ≤ 64) × ((h + reach k) * 8 ≤ (sideOf j 64 + reach j) * 8)) (sym e) (go j)
   where
