@@ -1,3 +1,4 @@
 pub mod Codes
+pub mod Sides
 pub mod Blocks
 pub mod Tables

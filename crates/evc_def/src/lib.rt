@@ -242,7 +242,10 @@ fn is_picture_side(n: u32) -> bool
 pub fn is_block_side(n: u32) -> bool
     ensures { λ r. ⌜ r ≡ isBlockSide n ⌝ }
 {
-    (n == 4) | (n == 8) | (n == 16) | (n == 32) | (n == 64)
+    match n {
+        4 | 8 | 16 | 32 | 64 => true,
+        _ => false,
+    }
 }
 
 fn is_inside(size: u32, place: u32, side: u32) -> bool

@@ -320,12 +320,21 @@ fn window(t: PlaneType, pic_w: u32, pic_h: u32, across: bool, down: bool, gmv: E
 
 // ---- the call
 
+fn is_chroma_side(n: u32) -> bool
+    ensures { λ r. ⌜ r ≡ isSide PlaneType.UV n ⌝ }
+{
+    match n {
+        2 | 4 | 8 | 16 | 32 => true,
+        _ => false,
+    }
+}
+
 fn is_side(t: PlaneType, n: u32) -> bool
     ensures { λ r. ⌜ r ≡ isSide t n ⌝ }
 {
     match t {
         PlaneType::Y => evc_def::is_block_side(n),
-        PlaneType::UV => (n == 2) | (n == 4) | (n == 8) | (n == 16) | (n == 32),
+        PlaneType::UV => is_chroma_side(n),
     }
 }
 
