@@ -45,10 +45,11 @@ mod util {
 }
 
 pub mod cases;
+pub mod mc2_lists;
 pub mod mc_lists;
 pub mod model;
 pub mod util_lists;
-pub use mc::calls::{evc_mc_plane, mv_clip};
+pub use mc::calls::{evc_mc_plane, mv_clip, Picture, References};
 pub use plane::calls::{pad, pad_plane, plane_config, plane_of};
 pub use plane::Plane;
 pub use util::calls::{evc_get_avail_inter, evc_get_motion, evc_get_mv_dir};

@@ -1,4 +1,4 @@
-//! The three calls of util.rs and one-plane prediction as document 01 tells them, refusals
+//! The three calls of util.rs, one-plane and block prediction as document 01 tells them, refusals
 //! included. Written from its sentences, which are quoted, and not from the Rust: samples and
 //! whole numbers, one unit or one sample at a time.
 
@@ -402,4 +402,156 @@ pub fn one_plane(c: &OnePlane, plane: &[u16], pred: &mut [u16]) -> u32 {
     }
     pred[..c.block_len()].copy_from_slice(&c.block(plane));
     0
+}
+
+/// 'Clipping' in one direction, with the exact sums: "if 4x + mvx < -256, the vector becomes -256 - 4x;
+/// if 4x + mvx + 4w - 4 > 4(W - 1 + 64), it becomes that limit - 4x - 4w + 4".
+pub fn clipped(pic: i64, x: i64, w: i64, mvx: i64) -> i64 {
+    let limit = 4 * (pic - 1 + 64);
+    if 4 * x + mvx < -256 {
+        -256 - 4 * x
+    } else if 4 * x + mvx + 4 * w - 4 > limit {
+        limit - 4 * x - 4 * w + 4
+    } else {
+        mvx
+    }
+}
+
+impl Block {
+    /// Picture side, place, side and vector in one direction.
+    fn component(&self, mv: Mv, d: usize) -> [i64; 4] {
+        let [pic, place, side] = [self.pic[d], self.place[d], self.side[d]].map(i64::from);
+        [pic, place, side, i64::from(mv[d])]
+    }
+
+    /// "4 × x + mvx + 4 × w at most 32,767, and likewise in y"
+    pub fn in_domain(&self, mv: Mv) -> bool {
+        let sums = [0, 1].map(|d| {
+            let [_, x, w, mvx] = self.component(mv, d);
+            4 * x + mvx + 4 * w
+        });
+        sums.iter().all(|sum| *sum <= 32767)
+    }
+
+    /// "A list's clipped place is 4x + mvx across and 4y + mvy down, with the clipped vector."
+    pub fn clipped_place(&self, mv: Mv) -> Mv {
+        [0, 1].map(|d| {
+            let [pic, x, w, mvx] = self.component(mv, d);
+            (4 * x + clipped(pic, x, w, mvx)) as i16
+        })
+    }
+}
+
+/// A list of a block: whether it is in use, its vector, and its picture's count and planes.
+#[derive(Clone, Copy)]
+pub struct List<'a> {
+    pub used: bool,
+    pub mv: Mv,
+    pub poc: u32,
+    pub planes: [&'a [u16]; 3],
+}
+
+impl List<'_> {
+    /// The prediction from one of its planes: path by the vector, phase and place by the clipped one.
+    pub fn one_plane(&self, b: &Block, plane: usize) -> OnePlane {
+        let chroma = plane > 0;
+        let part = 1 + u32::from(chroma);
+        OnePlane {
+            chroma,
+            pic: b.pic,
+            ori_mv: self.mv,
+            gmv: b.clipped_place(self.mv),
+            side: b.side.map(|n| n / part),
+        }
+    }
+
+    fn is_any_plane(&self, b: &Block, has: impl Fn(OnePlane, &[u16]) -> bool) -> bool {
+        (0..3).any(|k| has(self.one_plane(b, k), self.planes[k]))
+    }
+
+    fn block(&self, b: &Block, plane: usize) -> Vec<u16> {
+        self.one_plane(b, plane).block(self.planes[plane])
+    }
+
+    fn general(&self, b: &Block, plane: usize) -> Vec<u16> {
+        self.one_plane(b, plane).general(self.planes[plane])
+    }
+}
+
+/// "two lent blocks of at least 6144 samples, both needed even when one list is in use"
+pub const PRED_LEN: usize = 6144;
+
+/// "laid out by `tbl_cu_dim_offset`": "0, 4096, 5120"
+pub const OFFSETS: [usize; 3] = [0, 4096, 5120];
+
+/// "(a + b + 1) >> 1"
+fn average(a: &[u16], b: &[u16]) -> Vec<u16> {
+    let pairs = a.iter().zip(b);
+    pairs.map(|(a, b)| (a + b + 1) / 2).collect()
+}
+
+/// "If both lists are in use with equal counts and equal clipped vectors, list 0 alone stands."
+pub fn is_bi(b: &Block, lists: &[List; 2]) -> bool {
+    let [l, m] = lists;
+    let is_same = l.poc == m.poc && b.clipped_place(l.mv) == b.clipped_place(m.mv);
+    l.used && m.used && !is_same
+}
+
+/// 'Block': the number returned; both blocks become what they hold afterwards.
+pub fn block(b: &Block, lists: &[List; 2], pred0: &mut [u16], pred1: &mut [u16]) -> u32 {
+    let in_use: Vec<&List> = lists.iter().filter(|list| list.used).collect();
+    let code = first_refusal(&[
+        (1, b.is_picture_refused()),
+        (2, b.is_block_refused()),
+        (3, in_use.is_empty()), // "no list is in use"
+    ]);
+    if code != 0 {
+        return code;
+    }
+    // "A list not in use may lend empty buffers, unread."
+    let is_short = |list: &&List| list.is_any_plane(b, |c, plane| plane.len() < c.plane_len());
+    let code = first_refusal(&[
+        (
+            4,
+            in_use.iter().any(is_short) || pred0.len() < PRED_LEN || pred1.len() < PRED_LEN,
+        ),
+        (5, in_use.iter().any(|list| list.poc > 32767)), // "an order count in use exceeds 32,767"
+    ]);
+    if code != 0 {
+        return code;
+    }
+    // "with both lists' windows checked first"
+    let has_high = |list: &&List| list.is_any_plane(b, |c, plane| c.is_sample_refused(plane));
+    if in_use.iter().any(has_high) {
+        return 6;
+    }
+    for plane in 0..3 {
+        let at = OFFSETS[plane];
+        // "List 0 goes to the first; the second prediction goes to whichever of the two blocks is
+        // still empty."
+        let mut first = in_use[0].block(b, plane);
+        let part = at..at + first.len();
+        if is_bi(b, lists) {
+            // "the first block gets (a + b + 1) >> 1 and the second block keeps list 1's"
+            let second = lists[1].block(b, plane);
+            first = average(&first, &second);
+            pred1[part.clone()].copy_from_slice(&second);
+        }
+        pred0[part].copy_from_slice(&first);
+    }
+    0
+}
+
+/// The predicted samples that demand 3 compares, luma, cb, cr: "With both lists in use the sample is
+/// (a + b + 1) >> 1, also where counts and vectors are equal."
+pub fn general_block(b: &Block, lists: &[List; 2]) -> [Vec<u16>; 3] {
+    [0, 1, 2].map(|plane| {
+        let in_use = lists.iter().filter(|list| list.used);
+        let mut blocks = in_use.map(|list| list.general(b, plane));
+        let first = blocks.next().expect("a list is in use");
+        match blocks.next() {
+            Some(second) => average(&first, &second),
+            None => first,
+        }
+    })
 }

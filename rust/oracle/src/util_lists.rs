@@ -16,7 +16,7 @@ const MAX_UNITS: usize = 16;
 const MAX_MOTION: usize = 4 * MAX_UNITS;
 
 /// The ends of 32 bits in two bytes: from 65,280 on, as far below 2^32 as below 2^16.
-fn narrow(n: u32) -> u16 {
+pub(crate) fn narrow(n: u32) -> u16 {
     assert!(n < 0xff00 || n >= 0xffff_ff00, "{n} has no two bytes");
     n as u16
 }

@@ -2,7 +2,7 @@
 
 use oracle::cases::{clip, corners, hash, Component, Padding, Rng};
 use oracle::plane_config;
-use oracle::{mc_lists, util_lists};
+use oracle::{mc2_lists, mc_lists, util_lists};
 use std::fmt::Write;
 use std::path::Path;
 use std::{env, fs, io};
@@ -131,6 +131,15 @@ fn write_mc_plane(dir: &Path) -> io::Result<()> {
     write_lists(dir, lists)
 }
 
+/// Calls of block prediction, likewise.
+fn write_mc2(dir: &Path) -> io::Result<()> {
+    let lists = [
+        ("mc2", mc2_lists::accepted()),
+        ("mc2_bad", mc2_lists::bad()),
+    ];
+    write_lists(dir, lists)
+}
+
 fn main() -> io::Result<()> {
     let dir = env::args_os().nth(1).expect("usage: lists DIR");
     let dir = Path::new(&dir);
@@ -138,5 +147,6 @@ fn main() -> io::Result<()> {
     write_mv_clip(dir)?;
     write_pad(dir)?;
     write_util(dir)?;
-    write_mc_plane(dir)
+    write_mc_plane(dir)?;
+    write_mc2(dir)
 }

@@ -1,8 +1,12 @@
 //! Calls of mc.rs in plain numbers.
 
 use crate::def::*;
-use crate::model::OnePlane;
+use crate::model::{Block, Mv, OnePlane};
+use crate::picman::{EvcPic, EvcRefP};
 use crate::plane::Plane;
+use crate::standins::frame::Frame;
+use std::cell::RefCell;
+use std::rc::Rc;
 
 /// `mv_clip` with list 0 alone in use.
 pub fn mv_clip(x: i16, y: i16, pic_w: i16, pic_h: i16, w: i16, h: i16, mv: [i16; 2]) -> [i16; 2] {
@@ -23,6 +27,51 @@ pub fn evc_mc_plane(c: &OnePlane, plane: &Plane<pel>, pred: &mut [pel]) {
         super::evc_mc_l
     };
     evc_mc(ori_mv_x, ori_mv_y, plane, gmv_x, gmv_y, pred, cuw, cuh)
+}
+
+/// Luma, cb and cr, made once; a clone shares them.
+#[derive(Clone)]
+pub struct Picture(Rc<RefCell<Frame<pel>>>);
+
+impl Picture {
+    pub fn new(planes: [Plane<pel>; 3]) -> Self {
+        Picture(Rc::new(RefCell::new(Frame { planes })))
+    }
+}
+
+/// The pictures of both lists with their counts. Made once for many calls, which copy no plane.
+pub struct References(Vec<Vec<EvcRefP>>);
+
+impl References {
+    pub fn new(pictures: [&Picture; REFP_NUM], pocs: [u32; REFP_NUM]) -> Self {
+        let refp = |list: usize| {
+            let pic = EvcPic {
+                frame: Rc::clone(&pictures[list].0),
+                poc: pocs[list],
+                ..EvcPic::default()
+            };
+            let mut refp = EvcRefP::new();
+            refp.pic = Some(Rc::new(RefCell::new(pic)));
+            refp.poc = pocs[list];
+            refp
+        };
+        References(vec![vec![refp(REFP_0), refp(REFP_1)]])
+    }
+
+    /// A list in use refers to its picture; that of a list not in use is a decoy.
+    pub fn evc_mc2(
+        &self,
+        b: &Block,
+        used: [bool; REFP_NUM],
+        mv: [Mv; REFP_NUM],
+        pred0: &mut [pel],
+        pred1: &mut [pel],
+    ) {
+        let [[pic_w, pic_h], [x, y], [w, h]] =
+            [b.pic, b.place, b.side].map(|n| n.map(|n| n as i16));
+        let refi = used.map(|used| if used { 0 } else { REFI_INVALID });
+        super::evc_mc2(x, y, pic_w, pic_h, w, h, &refi, &mv, &self.0, pred0, pred1);
+    }
 }
 
 /// Why one list is enough: list 1 is clipped as list 0 is, and a list not in use stays.

@@ -1,0 +1,3 @@
+fn main() {
+    mc2_text::run();
+}
