@@ -1,1 +1,251 @@
-fn main() {}
+//! Predicts a picture from two references, block by block, and holds it to its mirror images.
+
+mod blocks;
+mod progress;
+mod scene;
+mod turns;
+mod y4m;
+
+use blocks::Moved;
+use evc_inter::{cu_plane, evc_mv_clip, EvcBlock, EvcList, EvcMv, Picture, Refusal};
+use progress::Progress;
+use std::fmt::Display;
+use std::path::{Path, PathBuf};
+use std::process::ExitCode;
+use turns::{Call, Lent, Turn};
+
+const USAGE: &str = "usage: predict [REF0.y4m REF1.y4m | --size WxH] [--out DIR]
+Predicts a picture from two references, as they are and turned, and writes it to DIR.
+REF0, REF1   pictures with 10-bit 4:2:0 samples (C420p10); without them two are made up
+--size WxH   size of the made-up pictures (416x240)
+--out DIR    where predicted.y4m and predicted.pgm go (predicted)
+Ends with 0 if every turned prediction agrees, 1 if one does not, 2 if nothing could be predicted.";
+
+/// Order counts of the references, and that of the picture between them.
+const POC: [u32; 2] = [0, 8];
+const CURRENT: u32 = 4;
+
+struct Args {
+    files: Option<[PathBuf; 2]>,
+    size: (u32, u32),
+    out: PathBuf,
+}
+
+/// The arguments; none if help is asked for.
+fn args(words: impl IntoIterator<Item = String>) -> Result<Option<Args>, String> {
+    let mut words = words.into_iter();
+    let (mut files, mut size, mut out) = (Vec::new(), None, PathBuf::from("predicted"));
+    while let Some(word) = words.next() {
+        let mut value = || words.next().ok_or(format!("{word} needs a value"));
+        match word.as_str() {
+            "-h" | "--help" => return Ok(None),
+            "--out" => out = value()?.into(),
+            "--size" => {
+                let value = value()?;
+                let sides = value.split_once('x').map(|(w, h)| (w.parse(), h.parse()));
+                let Some((Ok(w), Ok(h))) = sides else {
+                    return Err(format!("--size {value}: a size is WxH, as 416x240"));
+                };
+                size = Some((w, h));
+            }
+            _ if word.starts_with('-') => {
+                return Err(format!("{word}: no such option; see --help"))
+            }
+            _ => files.push(PathBuf::from(word)),
+        }
+    }
+    let files = match (files.len(), size) {
+        (0, _) => None,
+        (2, None) => Some(<[PathBuf; 2]>::try_from(files).unwrap()),
+        (2, Some(_)) => {
+            return Err("--size is for made-up pictures; the files have their own".into())
+        }
+        (n, _) => {
+            return Err(format!(
+                "{n} files given; two references are needed, or none"
+            ))
+        }
+    };
+    let size = size.unwrap_or((416, 240));
+    Ok(Some(Args { files, size, out }))
+}
+
+/// The references, padded.
+fn references(args: &Args) -> Result<[Picture; 2], String> {
+    let Some(paths) = &args.files else {
+        let (w, h) = args.size;
+        let made = |poc: u32| {
+            let mut picture = scene::picture(w, h, poc as i32)?;
+            picture.pad().map(|()| picture)
+        };
+        let [first, second] = POC.map(|poc| made(poc).map_err(|e| format!("{w} by {h}: {e}")));
+        return Ok([first?, second?]);
+    };
+    let mut pictures = [y4m::read(&paths[0])?, y4m::read(&paths[1])?];
+    let [(w0, h0), (w1, h1)] = pictures.each_ref().map(Picture::sides);
+    if (w0, h0) != (w1, h1) {
+        return Err(format!(
+            "the references differ in size: {w0} by {h0} and {w1} by {h1}"
+        ));
+    }
+    for (picture, path) in pictures.iter_mut().zip(paths) {
+        picture
+            .pad()
+            .map_err(|e| format!("{}: {e}", path.display()))?;
+    }
+    Ok(pictures)
+}
+
+/// The ways to predict a block: by list 0, by list 1, by both, and by both from one picture with
+/// equal vectors, where list 0 alone stands.
+fn calls(moved: &Moved) -> [Call; 4] {
+    let Moved { block, mv } = *moved;
+    let list = |k: usize| EvcList {
+        used: true,
+        mv: mv[k],
+        poc: POC[k],
+    };
+    let none = EvcList::default();
+    let call = |lists, from| Call { block, lists, from };
+    [
+        call([list(0), none], [0, 1]),
+        call([none, list(1)], [0, 1]),
+        call([list(0), list(1)], [0, 1]),
+        call([list(0), list(0)], [0, 0]),
+    ]
+}
+
+/// Which of `calls` makes the picture that is written.
+const BOTH: usize = 2;
+
+/// How the vectors of both lists fall out: by path of luma, and those that clipping moves.
+fn tally(blocks: &[Moved]) -> Result<String, Refusal> {
+    let mut paths = [0; 4];
+    let mut clipped = 0;
+    for Moved { block, mv } in blocks {
+        for mv in mv {
+            let [across, down] = [mv.x, mv.y].map(|n| usize::from(n & 3 != 0));
+            paths[2 * across + down] += 1;
+            clipped += u32::from(evc_mv_clip(*block, *mv)? != *mv);
+        }
+    }
+    let [copied, down, across, both] = paths;
+    Ok(format!(
+        "luma paths {copied} copied, {across} across, {down} down, {both} both; {clipped} clipped"
+    ))
+}
+
+/// Puts a predicted block in its place.
+fn put(picture: &mut Picture, b: &EvcBlock, pred: &[u16]) {
+    for (c, plane) in picture.planes.iter_mut().enumerate() {
+        let half = if c == 0 { 1 } else { 2 };
+        let [x, y, w] = [b.x, b.y, b.w].map(|n| (n / half) as usize);
+        for (j, row) in cu_plane(pred, c, b.w, b.h).chunks(w).enumerate() {
+            plane.row_mut(y + j)[x..x + w].copy_from_slice(row);
+        }
+    }
+}
+
+/// Predicts every block straight and turned; the turned ones that agree, and the first that does
+/// not.
+fn hold(
+    turn: Turn,
+    straight: &[Picture; 2],
+    blocks: &[Moved],
+    predicted: &mut Picture,
+) -> Result<(usize, Option<String>), Refusal> {
+    let mirrored = turn.pictures(straight)?;
+    let turned = mirrored.as_ref().unwrap_or(straight);
+    let [mut a, mut b] = [0, 1023].map(Lent::filled);
+    let (mut agree, mut first) = (0, None);
+    let mut progress = Progress::new(turn.name(), blocks.len());
+    for moved in blocks {
+        progress.step();
+        for (k, call) in calls(moved).iter().enumerate() {
+            call.predict(straight, &mut a)?;
+            turn.call(call).predict(turned, &mut b)?;
+            match turn.difference(&call.block, &a.pred0, &b.pred0) {
+                None => agree += 1,
+                Some(what) => first = first.or(Some(format!("{call:?}: {what}"))),
+            }
+            if k == BOTH {
+                put(predicted, &call.block, &a.pred0);
+            }
+        }
+    }
+    Ok((agree, first))
+}
+
+fn write(out: &Path, name: &str, picture: &Picture) -> Result<String, String> {
+    let path = out.join(name);
+    let written = match name.ends_with(".pgm") {
+        true => y4m::write_pgm(&path, picture),
+        false => y4m::write(&path, picture),
+    };
+    let shown = path.display().to_string();
+    written.map_err(|e| format!("{shown}: {e}")).map(|()| shown)
+}
+
+/// Whether all agree.
+fn run(args: &Args) -> Result<bool, String> {
+    std::fs::create_dir_all(&args.out).map_err(|e| format!("{}: {e}", args.out.display()))?;
+    let pictures = references(args)?;
+    let (w, h) = pictures[0].sides();
+    let blocks = blocks::blocks(w, h, |block| match args.files {
+        None => POC.map(|poc| scene::motion(block, CURRENT as i32, poc as i32)),
+        Some(_) => [EvcMv::default(); 2], // how a film moves is not known here
+    });
+    let refused = |e: Refusal| e.to_string();
+    println!(
+        "{w} by {h}, {} blocks, two vectors each: {}",
+        blocks.len(),
+        tally(&blocks).map_err(refused)?
+    );
+
+    let mut predicted = Picture::new(w, h).map_err(refused)?;
+    let calls = 4 * blocks.len();
+    let mut all = true;
+    for turn in Turn::ALL {
+        let (agree, first) = hold(turn, &pictures, &blocks, &mut predicted).map_err(refused)?;
+        println!("{}: {agree} of {calls} predictions agree", turn.name());
+        if let Some(first) = first {
+            println!("  first difference: {first}");
+            all = false;
+        }
+    }
+
+    if args.files.is_none() {
+        let names = ["reference0.y4m", "reference1.y4m"];
+        for (name, picture) in names.into_iter().zip(&pictures) {
+            println!("wrote {}", write(&args.out, name, picture)?);
+        }
+    }
+    println!(
+        "wrote {} (10-bit, both lists)",
+        write(&args.out, "predicted.y4m", &predicted)?
+    );
+    println!(
+        "wrote {} (its luma, 16-bit samples, white is 1023)",
+        write(&args.out, "predicted.pgm", &predicted)?
+    );
+    Ok(all)
+}
+
+fn main() -> ExitCode {
+    let done = match args(std::env::args().skip(1)) {
+        Ok(Some(args)) => run(&args),
+        Ok(None) => {
+            println!("{USAGE}");
+            return ExitCode::SUCCESS;
+        }
+        Err(e) => Err(e),
+    };
+    match done {
+        Ok(true) => ExitCode::SUCCESS,
+        Ok(false) => ExitCode::from(1),
+        Err(e) => {
+            eprintln!("predict: {e}");
+            ExitCode::from(2)
+        }
+    }
+}
