@@ -1,6 +1,7 @@
-//! Predicts a picture from two references, block by block, and holds it to its mirror images.
+//! Predicts a picture from two references, block by block, and holds it to demand 3.
 
 mod blocks;
+mod general;
 mod progress;
 mod scene;
 mod turns;
@@ -9,17 +10,17 @@ mod y4m;
 use blocks::Moved;
 use evc_inter::{cu_plane, evc_mv_clip, EvcBlock, EvcList, EvcMv, Picture, Refusal};
 use progress::Progress;
-use std::fmt::Display;
 use std::path::{Path, PathBuf};
 use std::process::ExitCode;
 use turns::{Call, Lent, Turn};
 
 const USAGE: &str = "usage: predict [REF0.y4m REF1.y4m | --size WxH] [--out DIR]
-Predicts a picture from two references, as they are and turned, and writes it to DIR.
+Predicts a picture from two references with made-up vectors, checks every block against the
+general filter and against its mirror images, and writes the picture to DIR.
 REF0, REF1   pictures with 10-bit 4:2:0 samples (C420p10); without them two are made up
 --size WxH   size of the made-up pictures (416x240)
 --out DIR    where predicted.y4m and predicted.pgm go (predicted)
-Ends with 0 if every turned prediction agrees, 1 if one does not, 2 if nothing could be predicted.";
+Ends with 0 if all predictions agree, 1 if one does not, 2 if nothing could be predicted.";
 
 /// Order counts of the references, and that of the picture between them.
 const POC: [u32; 2] = [0, 8];
@@ -146,34 +147,56 @@ fn put(picture: &mut Picture, b: &EvcBlock, pred: &[u16]) {
     }
 }
 
-/// Predicts every block straight and turned; the turned ones that agree, and the first that does
-/// not.
+/// Predicts every block in every way and checks each prediction; says how many pass and which does
+/// not, if any, and gives whether all do.
 fn hold(
-    turn: Turn,
-    straight: &[Picture; 2],
+    name: &'static str,
+    pictures: &[Picture; 2],
     blocks: &[Moved],
-    predicted: &mut Picture,
-) -> Result<(usize, Option<String>), Refusal> {
-    let mirrored = turn.pictures(straight)?;
-    let turned = mirrored.as_ref().unwrap_or(straight);
-    let [mut a, mut b] = [0, 1023].map(Lent::filled);
-    let (mut agree, mut first) = (0, None);
-    let mut progress = Progress::new(turn.name(), blocks.len());
+    mut check: impl FnMut(usize, &Call, &[u16]) -> Result<Option<String>, Refusal>,
+) -> Result<bool, Refusal> {
+    let mut lent = Lent::filled(0);
+    let (mut agree, mut of, mut first) = (0, 0, None);
+    let mut progress = Progress::new(name, blocks.len());
     for moved in blocks {
         progress.step();
-        for (k, call) in calls(moved).iter().enumerate() {
-            call.predict(straight, &mut a)?;
-            turn.call(call).predict(turned, &mut b)?;
-            match turn.difference(&call.block, &a.pred0, &b.pred0) {
+        for (way, call) in calls(moved).iter().enumerate() {
+            call.predict(pictures, &mut lent)?;
+            of += 1;
+            match check(way, call, &lent.pred0)? {
                 None => agree += 1,
                 Some(what) => first = first.or(Some(format!("{call:?}: {what}"))),
             }
-            if k == BOTH {
-                put(predicted, &call.block, &a.pred0);
-            }
         }
     }
-    Ok((agree, first))
+    drop(progress);
+    println!("{name}: {agree} of {of} predictions agree");
+    if let Some(first) = first {
+        println!("  first difference: {first}");
+    }
+    Ok(agree == of)
+}
+
+/// The picture predicted from both lists, and whether all that demand 3 says of it holds.
+fn predict(pictures: &[Picture; 2], blocks: &[Moved]) -> Result<(Picture, bool), Refusal> {
+    let (w, h) = pictures[0].sides();
+    let mut predicted = Picture::new(w, h)?;
+    let mut all = hold("general filter", pictures, blocks, |way, call, pred| {
+        if way == BOTH {
+            put(&mut predicted, &call.block, pred);
+        }
+        Ok(general::difference(call, pictures, pred))
+    })?;
+    for turn in Turn::ALL {
+        let mirrored = turn.pictures(pictures)?;
+        let turned = mirrored.as_ref().unwrap_or(pictures);
+        let mut lent = Lent::filled(1023);
+        all &= hold(turn.name(), pictures, blocks, |_, call, pred| {
+            turn.call(call).predict(turned, &mut lent)?;
+            Ok(turn.difference(&call.block, pred, &lent.pred0))
+        })?;
+    }
+    Ok((predicted, all))
 }
 
 fn write(out: &Path, name: &str, picture: &Picture) -> Result<String, String> {
@@ -188,8 +211,8 @@ fn write(out: &Path, name: &str, picture: &Picture) -> Result<String, String> {
 
 /// Whether all agree.
 fn run(args: &Args) -> Result<bool, String> {
-    std::fs::create_dir_all(&args.out).map_err(|e| format!("{}: {e}", args.out.display()))?;
     let pictures = references(args)?;
+    std::fs::create_dir_all(&args.out).map_err(|e| format!("{}: {e}", args.out.display()))?;
     let (w, h) = pictures[0].sides();
     let blocks = blocks::blocks(w, h, |block| match args.files {
         None => POC.map(|poc| scene::motion(block, CURRENT as i32, poc as i32)),
@@ -202,18 +225,7 @@ fn run(args: &Args) -> Result<bool, String> {
         tally(&blocks).map_err(refused)?
     );
 
-    let mut predicted = Picture::new(w, h).map_err(refused)?;
-    let calls = 4 * blocks.len();
-    let mut all = true;
-    for turn in Turn::ALL {
-        let (agree, first) = hold(turn, &pictures, &blocks, &mut predicted).map_err(refused)?;
-        println!("{}: {agree} of {calls} predictions agree", turn.name());
-        if let Some(first) = first {
-            println!("  first difference: {first}");
-            all = false;
-        }
-    }
-
+    let (predicted, all) = predict(&pictures, &blocks).map_err(refused)?;
     if args.files.is_none() {
         let names = ["reference0.y4m", "reference1.y4m"];
         for (name, picture) in names.into_iter().zip(&pictures) {
@@ -228,6 +240,7 @@ fn run(args: &Args) -> Result<bool, String> {
         "wrote {} (its luma, 16-bit samples, white is 1023)",
         write(&args.out, "predicted.pgm", &predicted)?
     );
+    println!("{}", if all { "all agree" } else { "NOT all agree" });
     Ok(all)
 }
 
