@@ -44,7 +44,7 @@ impl Lcg {
 /// Blocks of all sizes that cover the picture, each sample once; most vectors are near `base`.
 pub fn blocks(pic_w: u32, pic_h: u32, base: impl Fn(&EvcBlock) -> [EvcMv; 2]) -> Vec<Moved> {
     let mut made = Vec::new();
-    let mut lcg = Lcg(1);
+    let mut lcg = Lcg(2); // has every size at 416 by 240
     for y in (0..pic_h).step_by(64) {
         for x in (0..pic_w).step_by(64) {
             let whole = EvcBlock {

@@ -10,6 +10,9 @@ mod y4m;
 use blocks::Moved;
 use evc_inter::{cu_plane, evc_mv_clip, EvcBlock, EvcList, EvcMv, Picture, Refusal};
 use progress::Progress;
+use std::collections::BTreeSet;
+use std::fmt::Display;
+use std::io::{self, Write};
 use std::path::{Path, PathBuf};
 use std::process::ExitCode;
 use turns::{Call, Lent, Turn};
@@ -119,10 +122,10 @@ fn calls(moved: &Moved) -> [Call; 4] {
 /// Which of `calls` makes the picture that is written.
 const BOTH: usize = 2;
 
-/// How the vectors of both lists fall out: by path of luma, and those that clipping moves.
+/// What is tried: blocks and their sizes, vectors by path of luma, and those that clipping moves.
 fn tally(blocks: &[Moved]) -> Result<String, Refusal> {
-    let mut paths = [0; 4];
-    let mut clipped = 0;
+    let sizes: BTreeSet<_> = blocks.iter().map(|m| (m.block.w, m.block.h)).collect();
+    let (mut paths, mut clipped) = ([0; 4], 0);
     for Moved { block, mv } in blocks {
         for mv in mv {
             let [across, down] = [mv.x, mv.y].map(|n| usize::from(n & 3 != 0));
@@ -132,7 +135,10 @@ fn tally(blocks: &[Moved]) -> Result<String, Refusal> {
     }
     let [copied, down, across, both] = paths;
     Ok(format!(
-        "luma paths {copied} copied, {across} across, {down} down, {both} both; {clipped} clipped"
+        "{} blocks in {} sizes; vectors: {copied} copy, {across} filter across, {down} down, \
+         {both} both ways; {clipped} are clipped",
+        blocks.len(),
+        sizes.len()
     ))
 }
 
@@ -154,33 +160,34 @@ fn hold(
     pictures: &[Picture; 2],
     blocks: &[Moved],
     mut check: impl FnMut(usize, &Call, &[u16]) -> Result<Option<String>, Refusal>,
-) -> Result<bool, Refusal> {
+) -> Result<bool, String> {
     let mut lent = Lent::filled(0);
     let (mut agree, mut of, mut first) = (0, 0, None);
     let mut progress = Progress::new(name, blocks.len());
     for moved in blocks {
         progress.step();
         for (way, call) in calls(moved).iter().enumerate() {
-            call.predict(pictures, &mut lent)?;
+            let predicted = call.predict(pictures, &mut lent);
+            let checked = predicted.and_then(|()| check(way, call, &lent.pred0));
             of += 1;
-            match check(way, call, &lent.pred0)? {
+            match checked.map_err(|e| format!("{call}: {e}"))? {
                 None => agree += 1,
-                Some(what) => first = first.or(Some(format!("{call:?}: {what}"))),
+                Some(what) => first = first.or(Some(format!("{call}: {what}"))),
             }
         }
     }
     drop(progress);
-    println!("{name}: {agree} of {of} predictions agree");
+    say(format!("{name}: {agree} of {of} predictions agree"));
     if let Some(first) = first {
-        println!("  first difference: {first}");
+        say(format!("  first difference: {first}"));
     }
     Ok(agree == of)
 }
 
 /// The picture predicted from both lists, and whether all that demand 3 says of it holds.
-fn predict(pictures: &[Picture; 2], blocks: &[Moved]) -> Result<(Picture, bool), Refusal> {
+fn predict(pictures: &[Picture; 2], blocks: &[Moved]) -> Result<(Picture, bool), String> {
     let (w, h) = pictures[0].sides();
-    let mut predicted = Picture::new(w, h)?;
+    let mut predicted = Picture::new(w, h).map_err(|e| e.to_string())?;
     let mut all = hold("general filter", pictures, blocks, |way, call, pred| {
         if way == BOTH {
             put(&mut predicted, &call.block, pred);
@@ -188,7 +195,7 @@ fn predict(pictures: &[Picture; 2], blocks: &[Moved]) -> Result<(Picture, bool),
         Ok(general::difference(call, pictures, pred))
     })?;
     for turn in Turn::ALL {
-        let mirrored = turn.pictures(pictures)?;
+        let mirrored = turn.pictures(pictures).map_err(|e| e.to_string())?;
         let turned = mirrored.as_ref().unwrap_or(pictures);
         let mut lent = Lent::filled(1023);
         all &= hold(turn.name(), pictures, blocks, |_, call, pred| {
@@ -197,6 +204,11 @@ fn predict(pictures: &[Picture; 2], blocks: &[Moved]) -> Result<(Picture, bool),
         })?;
     }
     Ok((predicted, all))
+}
+
+/// A line on standard output; that nobody reads it does not end the work.
+fn say(line: impl Display) {
+    let _ = writeln!(io::stdout(), "{line}");
 }
 
 fn write(out: &Path, name: &str, picture: &Picture) -> Result<String, String> {
@@ -218,29 +230,24 @@ fn run(args: &Args) -> Result<bool, String> {
         None => POC.map(|poc| scene::motion(block, CURRENT as i32, poc as i32)),
         Some(_) => [EvcMv::default(); 2], // how a film moves is not known here
     });
-    let refused = |e: Refusal| e.to_string();
-    println!(
-        "{w} by {h}, {} blocks, two vectors each: {}",
-        blocks.len(),
-        tally(&blocks).map_err(refused)?
-    );
+    let tally = tally(&blocks).map_err(|e| e.to_string())?;
+    say(format!("{w} by {h}: {tally}"));
 
-    let (predicted, all) = predict(&pictures, &blocks).map_err(refused)?;
+    let (predicted, all) = predict(&pictures, &blocks)?;
+
     if args.files.is_none() {
         let names = ["reference0.y4m", "reference1.y4m"];
         for (name, picture) in names.into_iter().zip(&pictures) {
-            println!("wrote {}", write(&args.out, name, picture)?);
+            say(format!("wrote {}", write(&args.out, name, picture)?));
         }
     }
-    println!(
-        "wrote {} (10-bit, both lists)",
-        write(&args.out, "predicted.y4m", &predicted)?
-    );
-    println!(
-        "wrote {} (its luma, 16-bit samples, white is 1023)",
-        write(&args.out, "predicted.pgm", &predicted)?
-    );
-    println!("{}", if all { "all agree" } else { "NOT all agree" });
+    let path = write(&args.out, "predicted.y4m", &predicted)?;
+    say(format!("wrote {path} (10-bit, both lists)"));
+    let path = write(&args.out, "predicted.pgm", &predicted)?;
+    say(format!(
+        "wrote {path} (its luma, 16-bit samples, white is 1023)"
+    ));
+    say(if all { "all agree" } else { "NOT all agree" });
     Ok(all)
 }
 
@@ -248,7 +255,7 @@ fn main() -> ExitCode {
     let done = match args(std::env::args().skip(1)) {
         Ok(Some(args)) => run(&args),
         Ok(None) => {
-            println!("{USAGE}");
+            say(USAGE);
             return ExitCode::SUCCESS;
         }
         Err(e) => Err(e),

@@ -1,6 +1,7 @@
 //! Demand 3: a call, the call turned, and whether their first blocks agree.
 
 use evc_inter::{cu_plane, evc_mc2, EvcBlock, EvcList, EvcMv, Picture, Refusal, CU_LEN};
+use std::fmt;
 
 /// A call of `evc_mc2`; `from` says which of two pictures each list lends.
 #[derive(Clone, Copy, Debug, PartialEq)]
@@ -8,6 +9,17 @@ pub struct Call {
     pub block: EvcBlock,
     pub lists: [EvcList; 2],
     pub from: [usize; 2],
+}
+
+impl fmt::Display for Call {
+    fn fmt(&self, f: &mut fmt::Formatter<'_>) -> fmt::Result {
+        let b = &self.block;
+        write!(f, "block of {} by {} at {}, {}", b.w, b.h, b.x, b.y)?;
+        for (k, list) in self.lists.iter().enumerate().filter(|(_, list)| list.used) {
+            write!(f, ", list {k} by ({}, {})", list.mv.x, list.mv.y)?;
+        }
+        Ok(())
+    }
 }
 
 /// The two blocks lent to a call.
