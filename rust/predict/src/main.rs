@@ -11,6 +11,7 @@ use blocks::Moved;
 use evc_inter::{cu_plane, evc_mv_clip, EvcBlock, EvcList, EvcMv, Picture, Refusal};
 use progress::Progress;
 use std::collections::BTreeSet;
+use std::ffi::OsString;
 use std::fmt::Display;
 use std::io::{self, Write};
 use std::path::{Path, PathBuf};
@@ -22,7 +23,7 @@ Predicts a picture from two references with made-up vectors, checks every block 
 general filter and against its mirror images, and writes the picture to DIR.
 REF0, REF1   pictures with 10-bit 4:2:0 samples (C420p10); without them two are made up
 --size WxH   size of the made-up pictures (416x240)
---out DIR    where predicted.y4m and predicted.pgm go (predicted)
+--out DIR    where predicted.y4m and predicted.pgm go (target/predict)
 Ends with 0 if all predictions agree, 1 if one does not, 2 if nothing could be predicted.";
 
 /// Order counts of the references, and that of the picture between them.
@@ -36,39 +37,32 @@ struct Args {
 }
 
 /// The arguments; none if help is asked for.
-fn args(words: impl IntoIterator<Item = String>) -> Result<Option<Args>, String> {
+fn args(words: impl IntoIterator<Item = OsString>) -> Result<Option<Args>, String> {
     let mut words = words.into_iter();
-    let (mut files, mut size, mut out) = (Vec::new(), None, PathBuf::from("predicted"));
+    let (mut files, mut size, mut out) = (Vec::new(), None, PathBuf::from("target/predict"));
     while let Some(word) = words.next() {
-        let mut value = || words.next().ok_or(format!("{word} needs a value"));
-        match word.as_str() {
-            "-h" | "--help" => return Ok(None),
-            "--out" => out = value()?.into(),
-            "--size" => {
-                let value = value()?;
-                let sides = value.split_once('x').map(|(w, h)| (w.parse(), h.parse()));
-                let Some((Ok(w), Ok(h))) = sides else {
-                    return Err(format!("--size {value}: a size is WxH, as 416x240"));
+        match word.to_str() {
+            Some("-h" | "--help") => return Ok(None),
+            Some("--out") => out = words.next().ok_or("--out needs a folder")?.into(),
+            Some("--size") => {
+                let value = words.next().unwrap_or_default();
+                let sides = value.to_str().and_then(|value| value.split_once('x'));
+                let Some((Ok(w), Ok(h))) = sides.map(|(w, h)| (w.parse(), h.parse())) else {
+                    return Err("--size needs WxH, as 416x240".into());
                 };
                 size = Some((w, h));
             }
-            _ if word.starts_with('-') => {
-                return Err(format!("{word}: no such option; see --help"))
+            Some(option) if option.starts_with('-') => {
+                return Err(format!("{option}: no such option; see --help"))
             }
             _ => files.push(PathBuf::from(word)),
         }
     }
-    let files = match (files.len(), size) {
-        (0, _) => None,
-        (2, None) => Some(<[PathBuf; 2]>::try_from(files).unwrap()),
-        (2, Some(_)) => {
-            return Err("--size is for made-up pictures; the files have their own".into())
-        }
-        (n, _) => {
-            return Err(format!(
-                "{n} files given; two references are needed, or none"
-            ))
-        }
+    let files = match (&files[..], size) {
+        ([], _) => None,
+        ([first, second], None) => Some([first.clone(), second.clone()]),
+        ([_, _], _) => return Err("--size is for made-up pictures; files have their own".into()),
+        _ => return Err("two references are needed, or none".into()),
     };
     let size = size.unwrap_or((416, 240));
     Ok(Some(Args { files, size, out }))
@@ -252,7 +246,7 @@ fn run(args: &Args) -> Result<bool, String> {
 }
 
 fn main() -> ExitCode {
-    let done = match args(std::env::args().skip(1)) {
+    let done = match args(std::env::args_os().skip(1)) {
         Ok(Some(args)) => run(&args),
         Ok(None) => {
             say(USAGE);

@@ -12,7 +12,15 @@ const PLANES: [char; 3] = ['Y', 'U', 'V'];
 pub fn read(path: &Path) -> Result<Picture, String> {
     let said = |what: String| format!("{}: {what}", path.display());
     let file = File::open(path).map_err(|e| said(e.to_string()))?;
-    read_from(&mut BufReader::new(file)).map_err(said)
+    let mut file = BufReader::new(file);
+    let picture = read_from(&mut file).map_err(said)?;
+    if file.fill_buf().is_ok_and(|more| !more.is_empty()) {
+        eprintln!(
+            "{}",
+            said("there is more behind its first picture, which alone is used".into())
+        );
+    }
+    Ok(picture)
 }
 
 fn read_from(file: &mut impl BufRead) -> Result<Picture, String> {
