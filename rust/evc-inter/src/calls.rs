@@ -258,3 +258,24 @@ pub fn evc_mc2(
         )
     })
 }
+
+/// docs/INTEGRATION.md: -32767 may stand in for -32768, in pictures and places of any size.
+#[test]
+fn lowest_component() {
+    for pic_w in (4..=8128).step_by(4) {
+        for w in [4, 8, 16, 32, 64].into_iter().filter(|w| *w <= pic_w) {
+            for x in [0, pic_w - w] {
+                let block = EvcBlock {
+                    pic_w,
+                    pic_h: 4,
+                    x,
+                    y: 0,
+                    w,
+                    h: 4,
+                };
+                let clipped = |mvx| evc_mv_clip(block, EvcMv { x: mvx, y: 0 }).unwrap();
+                assert_eq!(clipped(-32768), clipped(-32767), "{block:?}");
+            }
+        }
+    }
+}
