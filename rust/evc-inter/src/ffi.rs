@@ -1,0 +1,93 @@
+//! include/evc_inter.h, declaration for declaration.
+
+use crate::{EvcBlock, EvcCandidates, EvcList, EvcMv};
+
+#[repr(C)]
+pub struct EvcAvail {
+    pub code: u32,
+    pub avail: u16,
+}
+
+#[repr(C)]
+pub struct EvcClipped {
+    pub code: u32,
+    pub mv: EvcMv,
+}
+
+#[repr(C)]
+pub struct EvcDirect {
+    pub code: u32,
+    pub mv0: EvcMv,
+    pub mv1: EvcMv,
+}
+
+extern "C" {
+    pub fn evc_pad(chroma: bool, pic_w: u32, pic_h: u32, plane: *mut u16, plane_len: usize) -> u32;
+
+    pub fn evc_get_avail_inter(
+        block: EvcBlock,
+        map_scu: *const u32,
+        map_scu_len: usize,
+    ) -> EvcAvail;
+
+    pub fn evc_get_motion(
+        block: EvcBlock,
+        lidx: u32,
+        avail: u16,
+        map_mv: *const i16,
+        map_mv_len: usize,
+        has_col: bool,
+        col_mv: *const i16,
+        col_mv_len: usize,
+        cand: *mut EvcCandidates,
+    ) -> u32;
+
+    pub fn evc_get_mv_dir(
+        block: EvcBlock,
+        poc: u32,
+        poc0: u32,
+        poc1: u32,
+        list_poc0: u32,
+        has_col: bool,
+        col_mv: *const i16,
+        col_mv_len: usize,
+    ) -> EvcDirect;
+
+    pub fn evc_mv_clip(block: EvcBlock, mv: EvcMv) -> EvcClipped;
+
+    pub fn evc_mc_plane(
+        chroma: bool,
+        pic_w: u32,
+        pic_h: u32,
+        ori_mv: EvcMv,
+        gmv: EvcMv,
+        w: u32,
+        h: u32,
+        plane: *const u16,
+        plane_len: usize,
+        pred: *mut u16,
+        pred_len: usize,
+    ) -> u32;
+
+    pub fn evc_mc2(
+        block: EvcBlock,
+        list0: EvcList,
+        y0: *const u16,
+        y0_len: usize,
+        u0: *const u16,
+        u0_len: usize,
+        v0: *const u16,
+        v0_len: usize,
+        list1: EvcList,
+        y1: *const u16,
+        y1_len: usize,
+        u1: *const u16,
+        u1_len: usize,
+        v1: *const u16,
+        v1_len: usize,
+        pred0: *mut u16,
+        pred0_len: usize,
+        pred1: *mut u16,
+        pred1_len: usize,
+    ) -> u32;
+}

@@ -1,0 +1,271 @@
+//! Planes and pictures that the calls take.
+
+use crate::{evc_pad, Refusal};
+
+/// Sides of a picture that every call takes.
+fn is_side(side: u32) -> bool {
+    side % 4 == 0 && (4..=8128).contains(&side)
+}
+
+/// How a plane of a picture lies in its buffer, with the names of revc's `PlaneConfig`.
+///
+/// ```
+/// use evc_inter::{PlaneConfig, Refusal};
+///
+/// let luma = PlaneConfig::new(false, 1920, 1080)?;
+/// assert_eq!((luma.xorigin, luma.yorigin), (80, 80));
+/// assert_eq!((luma.stride, luma.alloc_height), (2080, 1240));
+/// let chroma = PlaneConfig::new(true, 1920, 1080)?;
+/// assert_eq!((chroma.xorigin, chroma.yorigin), (48, 40));
+/// assert_eq!((chroma.width, chroma.stride), (960, 1056));
+/// assert_eq!(PlaneConfig::new(false, 8132, 4), Err(Refusal::Picture));
+/// # Ok::<(), Refusal>(())
+/// ```
+#[derive(Clone, Copy, Debug, PartialEq, Eq)]
+pub struct PlaneConfig {
+    /// Width of the picture on this plane.
+    pub width: usize,
+    /// Height of the picture on this plane.
+    pub height: usize,
+    /// Columns before the picture.
+    pub xorigin: usize,
+    /// Rows above the picture.
+    pub yorigin: usize,
+    /// Samples of a row, border included.
+    pub stride: usize,
+    /// Rows, border included.
+    pub alloc_height: usize,
+    /// Samples that a call needs, stride × rows.
+    pub len: usize,
+}
+
+impl PlaneConfig {
+    /// The luma plane, or either chroma plane, of a picture of `pic_w` by `pic_h`. Refuses 1.
+    pub fn new(chroma: bool, pic_w: u32, pic_h: u32) -> Result<PlaneConfig, Refusal> {
+        if !is_side(pic_w) || !is_side(pic_h) {
+            return Err(Refusal::Picture);
+        }
+        let (pad, half) = if chroma { (40, 2) } else { (80, 1) };
+        let (width, height) = (pic_w as usize / half, pic_h as usize / half);
+        // "The left origin is the pad rounded up to a multiple of 16", the stride likewise.
+        let xorigin = usize::next_multiple_of(pad, 16);
+        let stride = (xorigin + width + pad).next_multiple_of(16);
+        let alloc_height = pad + height + pad;
+        Ok(PlaneConfig {
+            width,
+            height,
+            xorigin,
+            yorigin: pad,
+            stride,
+            alloc_height,
+            len: stride * alloc_height,
+        })
+    }
+
+    /// Where the buffer has the picture's sample of column `x` and row `y`.
+    ///
+    /// ```
+    /// let cfg = evc_inter::PlaneConfig::new(false, 4, 4)?;
+    /// assert_eq!(cfg.index(1, 2), 82 * 176 + 81);
+    /// # Ok::<(), evc_inter::Refusal>(())
+    /// ```
+    pub fn index(&self, x: usize, y: usize) -> usize {
+        (self.yorigin + y) * self.stride + self.xorigin + x
+    }
+}
+
+/// A plane with its border, as the calls take it.
+///
+/// Set the picture's samples by [`row_mut`](Plane::row_mut), then [`pad`](Plane::pad): a change
+/// after that needs another `pad`.
+///
+/// ```
+/// use evc_inter::{Plane, Refusal};
+///
+/// let mut plane = Plane::new(true, 8, 8)?; // chroma: 4 by 4
+/// plane.row_mut(0).copy_from_slice(&[5, 6, 7, 8]);
+/// plane.pad()?;
+/// assert_eq!(plane.row(0), [5, 6, 7, 8]);
+/// assert_eq!(plane.samples()[0], 5);
+/// # Ok::<(), Refusal>(())
+/// ```
+#[derive(Clone, Debug, PartialEq, Eq)]
+pub struct Plane {
+    chroma: bool,
+    pic_w: u32,
+    pic_h: u32,
+    cfg: PlaneConfig,
+    data: Vec<u16>,
+}
+
+impl Plane {
+    /// A plane of zeros for a picture of `pic_w` by `pic_h`. Refuses 1.
+    pub fn new(chroma: bool, pic_w: u32, pic_h: u32) -> Result<Plane, Refusal> {
+        let cfg = PlaneConfig::new(chroma, pic_w, pic_h)?;
+        let data = vec![0; cfg.len];
+        Ok(Plane {
+            chroma,
+            pic_w,
+            pic_h,
+            cfg,
+            data,
+        })
+    }
+
+    /// How the plane lies in its buffer.
+    pub fn cfg(&self) -> &PlaneConfig {
+        &self.cfg
+    }
+
+    /// Row `y` of the picture, without the border.
+    ///
+    /// # Panics
+    /// If the picture has no such row.
+    pub fn row(&self, y: usize) -> &[u16] {
+        assert!(y < self.cfg.height, "row {y} of {}", self.cfg.height);
+        let at = self.cfg.index(0, y);
+        &self.data[at..at + self.cfg.width]
+    }
+
+    /// Row `y` of the picture, to be set.
+    ///
+    /// # Panics
+    /// If the picture has no such row.
+    pub fn row_mut(&mut self, y: usize) -> &mut [u16] {
+        assert!(y < self.cfg.height, "row {y} of {}", self.cfg.height);
+        let at = self.cfg.index(0, y);
+        &mut self.data[at..at + self.cfg.width]
+    }
+
+    /// The picture's rows from the top.
+    pub fn rows(&self) -> impl Iterator<Item = &[u16]> {
+        (0..self.cfg.height).map(|y| self.row(y))
+    }
+
+    /// The picture's rows from the top, to be set.
+    pub fn rows_mut(&mut self) -> impl Iterator<Item = &mut [u16]> {
+        let PlaneConfig {
+            width,
+            height,
+            xorigin,
+            yorigin,
+            stride,
+            ..
+        } = self.cfg;
+        let rows = self.data.chunks_exact_mut(stride);
+        rows.skip(yorigin)
+            .take(height)
+            .map(move |row| &mut row[xorigin..xorigin + width])
+    }
+
+    /// Fills the border by [`evc_pad`]. Refuses 6, and changes nothing then.
+    pub fn pad(&mut self) -> Result<(), Refusal> {
+        evc_pad(self.chroma, self.pic_w, self.pic_h, &mut self.data)
+    }
+
+    /// The whole buffer with its border, to be lent to a call.
+    pub fn samples(&self) -> &[u16] {
+        &self.data
+    }
+}
+
+/// The three planes of a picture: Y, U, V.
+///
+/// ```
+/// use evc_inter::{Picture, Refusal};
+///
+/// let mut picture = Picture::new(16, 8)?;
+/// picture.planes[0].row_mut(7)[15] = 1024;
+/// assert_eq!(picture.pad(), Err(Refusal::Sample));
+/// picture.planes[0].row_mut(7)[15] = 1023;
+/// picture.pad()?;
+/// # Ok::<(), Refusal>(())
+/// ```
+#[derive(Clone, Debug, PartialEq, Eq)]
+pub struct Picture {
+    /// Y, U, V.
+    pub planes: [Plane; 3],
+}
+
+impl Picture {
+    /// A picture of zeros. Refuses 1.
+    pub fn new(pic_w: u32, pic_h: u32) -> Result<Picture, Refusal> {
+        let [y, u, v] = [false, true, true].map(|chroma| Plane::new(chroma, pic_w, pic_h));
+        Ok(Picture {
+            planes: [y?, u?, v?],
+        })
+    }
+
+    /// Width and height in luma samples.
+    pub fn sides(&self) -> (u32, u32) {
+        (self.planes[0].pic_w, self.planes[0].pic_h)
+    }
+
+    /// Fills the borders of the three planes. Refuses 6; planes before the refused one are padded.
+    pub fn pad(&mut self) -> Result<(), Refusal> {
+        self.planes.iter_mut().try_for_each(Plane::pad)
+    }
+
+    /// The three planes, to be lent to [`evc_mc2`](crate::evc_mc2).
+    pub fn samples(&self) -> [&[u16]; 3] {
+        self.planes.each_ref().map(Plane::samples)
+    }
+}
+
+#[cfg(test)]
+mod tests {
+    use super::*;
+
+    /// Document 01's line on strides, with the lengths that follow.
+    #[test]
+    fn strides() {
+        for (side, luma, chroma) in [(4, 176, 96), (8128, 8288, 4160)] {
+            let cfg = |chroma| PlaneConfig::new(chroma, side, side).unwrap();
+            assert_eq!([cfg(false), cfg(true)].map(|c| c.stride), [luma, chroma]);
+            assert_eq!(cfg(false).len, luma * (side as usize + 160));
+            assert_eq!(cfg(true).len, chroma * (side as usize / 2 + 80));
+        }
+    }
+
+    /// The length is what the call needs and no more, and sides are refused as the call refuses.
+    #[test]
+    fn as_the_call_has_it() {
+        for chroma in [false, true] {
+            for (w, h) in [(4, 4), (4, 12), (20, 8), (36, 36), (72, 4), (1920, 1080)] {
+                let len = PlaneConfig::new(chroma, w, h).unwrap().len;
+                assert_eq!(evc_pad(chroma, w, h, &mut vec![9; len]), Ok(()));
+                let short = evc_pad(chroma, w, h, &mut vec![9; len - 1]);
+                assert_eq!(short, Err(Refusal::Buffer));
+            }
+            for (w, h) in [(0, 4), (4, 0), (6, 4), (4, 8132), (u32::MAX, 4)] {
+                let refused = PlaneConfig::new(chroma, w, h);
+                assert_eq!(refused, Err(Refusal::Picture));
+                let call = evc_pad(chroma, w, h, &mut []);
+                assert_eq!(call, Err(Refusal::Picture));
+            }
+        }
+    }
+
+    /// Every sample of the buffer is the picture's nearest.
+    #[test]
+    fn padded() {
+        for chroma in [false, true] {
+            let mut plane = Plane::new(chroma, 12, 20).unwrap();
+            for (y, row) in plane.rows_mut().enumerate() {
+                for (x, sample) in row.iter_mut().enumerate() {
+                    *sample = (40 * y + x) as u16;
+                }
+            }
+            plane.pad().unwrap();
+            let cfg = *plane.cfg();
+            for (at, sample) in plane.samples().iter().enumerate() {
+                let held =
+                    |n: usize, origin: usize, side: usize| n.saturating_sub(origin).min(side - 1);
+                let x = held(at % cfg.stride, cfg.xorigin, cfg.width);
+                let y = held(at / cfg.stride, cfg.yorigin, cfg.height);
+                assert_eq!(*sample, (40 * y + x) as u16, "{at}");
+            }
+            assert!(plane.rows().eq((0..cfg.height).map(|y| plane.row(y))));
+        }
+    }
+}

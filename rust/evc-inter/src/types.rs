@@ -1,0 +1,83 @@
+//! The structs of include/evc_inter.h that a caller fills or reads.
+
+/// A vector in quarter luma samples, or a position in them.
+#[derive(Clone, Copy, Debug, Default, PartialEq, Eq, Hash)]
+#[repr(C)]
+pub struct EvcMv {
+    /// Across; positive is right.
+    pub x: i16,
+    /// Down.
+    pub y: i16,
+}
+
+/// A block of a picture, in luma samples.
+#[derive(Clone, Copy, Debug, Default, PartialEq, Eq, Hash)]
+#[repr(C)]
+pub struct EvcBlock {
+    /// Width of the picture: a multiple of 4 from 4 to 8128.
+    pub pic_w: u32,
+    /// Height of the picture, likewise.
+    pub pic_h: u32,
+    /// Left edge of the block, a multiple of 4.
+    pub x: u32,
+    /// Upper edge of the block, likewise.
+    pub y: u32,
+    /// Width of the block: 4, 8, 16, 32 or 64.
+    pub w: u32,
+    /// Height of the block, likewise.
+    pub h: u32,
+}
+
+/// What a block takes from one list of references. The default is a list not in use.
+#[derive(Clone, Copy, Debug, Default, PartialEq, Eq, Hash)]
+#[repr(C)]
+pub struct EvcList {
+    /// Whether the list is in use; if not, nothing else of it is read.
+    pub used: bool,
+    /// The vector, as decoded: `evc_mc2` clips it.
+    pub mv: EvcMv,
+    /// Order count of the reference, 0 to 32,767.
+    pub poc: u32,
+}
+
+/// The record of four candidates that `evc_get_motion` changes.
+#[derive(Clone, Copy, Debug, Default, PartialEq, Eq, Hash)]
+#[repr(C)]
+pub struct EvcCandidates {
+    /// From the unit left of the block, or (1, 1).
+    pub left: EvcMv,
+    /// From the unit above the block's first, or (1, 1).
+    pub up: EvcMv,
+    /// From the unit above and right of the block, or (1, 1).
+    pub up_right: EvcMv,
+    /// From list 0 of the collocated map; without that map it keeps its old value.
+    pub collocated: EvcMv,
+    /// Reference numbers of the four; all become 0.
+    pub refi: [i8; 4],
+}
+
+/// The header's layout on x86-64; tests/c holds the header to the same numbers.
+#[cfg(test)]
+mod layout {
+    use super::*;
+    use crate::ffi::{EvcAvail, EvcClipped, EvcDirect};
+    use std::mem::{align_of, offset_of, size_of};
+
+    macro_rules! layout {
+        ($name:ident, $type:ty, $size:literal, $align:literal, $($field:ident $at:literal),+) => {
+            #[test]
+            fn $name() {
+                assert_eq!((size_of::<$type>(), align_of::<$type>()), ($size, $align));
+                $(assert_eq!(offset_of!($type, $field), $at, stringify!($field));)+
+            }
+        };
+    }
+
+    layout!(mv, EvcMv, 4, 2, x 0, y 2);
+    layout!(block, EvcBlock, 24, 4, pic_w 0, pic_h 4, x 8, y 12, w 16, h 20);
+    layout!(list, EvcList, 12, 4, used 0, mv 2, poc 8);
+    layout!(avail, EvcAvail, 8, 4, code 0, avail 4);
+    layout!(clipped, EvcClipped, 8, 4, code 0, mv 4);
+    layout!(direct, EvcDirect, 12, 4, code 0, mv0 4, mv1 8);
+    layout!(candidates, EvcCandidates, 20, 2, left 0, up 4, up_right 8, collocated 12, refi 16);
+}
