@@ -45,7 +45,7 @@ pub fn run(report: &mut Report) {
         let [mut pred_a, mut pred_b] = [lent(), lent()];
         let mut codes = 0;
         let [original, ours] = least(
-            report.rounds.min(5),
+            report.rounds.min(10),
             1,
             [
                 &mut || {

@@ -179,6 +179,7 @@ unsafe fn exceeds(from: *const u16, stride: usize, n: usize, h: usize) -> bool {
 }
 
 /// The first sample, held as `PlaneSlice::clamp` does; `lead` samples before the place.
+#[inline(always)]
 fn start(c: &OnePlane, plane: &Plane<u16>, bits: i16, lead: [isize; 2]) -> *const u16 {
     let cfg = &plane.cfg;
     let held = |d: usize, origin: usize, size: usize| {

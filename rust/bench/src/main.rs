@@ -44,7 +44,7 @@ fn main() {
         std::process::exit(2);
     };
     let processor = processor().unwrap_or("unknown processor".to_string());
-    println!("{processor}, least of {} rounds\n", report.rounds);
+    println!("{processor}, least of {} rounds.\n", report.rounds);
     one_plane::run(&mut report);
     block::run(&mut report);
     border::run(&mut report);

@@ -47,6 +47,7 @@ pub struct Report {
     pub markdown: bool,
     pub filter: String,
     judged: Vec<(&'static str, String, f64)>,
+    later: String,
 }
 
 impl Report {
@@ -56,6 +57,7 @@ impl Report {
             markdown,
             filter,
             judged: Vec::new(),
+            later: String::new(),
         }
     }
 
@@ -77,36 +79,20 @@ impl Report {
         format!("{:.2}{missed}", target.at_most)
     }
 
-    /// The first column is words, the others are numbers.
-    pub fn table(&self, title: &str, head: &[&str], rows: &[Vec<String>]) {
+    /// Shows a table: in a terminal at once, on a page below the targets.
+    pub fn table(&mut self, title: &str, head: &[&str], rows: &[Vec<String>]) {
         if rows.is_empty() {
             return;
         }
-        let head: Vec<String> = head.iter().map(|name| name.to_string()).collect();
         if self.markdown {
-            println!("### {title}\n\n| {} |", head.join(" | "));
-            println!("|---|{}", "---:|".repeat(head.len() - 1));
-            for row in rows {
-                println!("| {} |", row.join(" | "));
-            }
-            println!();
-            return;
+            self.later += &markdown(title, head, rows);
+        } else {
+            println!("{}", terminal(title, head, rows));
         }
-        println!("{title}");
-        let all = || std::iter::once(&head).chain(rows);
-        let width = |k: usize| all().map(|row| row[k].chars().count()).max().unwrap();
-        for row in all() {
-            let cells = row.iter().enumerate().map(|(k, cell)| match k {
-                0 => format!("{cell:<0$}", width(k)),
-                _ => format!("{cell:>0$}", width(k)),
-            });
-            println!("  {}", cells.collect::<Vec<_>>().join("  "));
-        }
-        println!();
     }
 
     /// Of each target the largest ratio, and how many are above it.
-    pub fn targets(&self) {
+    pub fn targets(&mut self) {
         let mut rows = Vec::new();
         for target in TARGETS {
             let mut of: Vec<_> = self.judged.iter().filter(|j| j.0 == target.name).collect();
@@ -124,8 +110,34 @@ impl Report {
             ]);
         }
         let head = ["target", "at most", "largest", "where", "missed"];
+        let tables = std::mem::take(&mut self.later);
         self.table("The targets", &head, &rows);
+        print!("{}{tables}", self.later);
     }
+}
+
+fn markdown(title: &str, head: &[&str], rows: &[Vec<String>]) -> String {
+    let mut text = format!("### {title}\n\n| {} |\n|---|", head.join(" | "));
+    text += &"---:|".repeat(head.len() - 1);
+    for row in rows {
+        text += &format!("\n| {} |", row.join(" | "));
+    }
+    text + "\n\n"
+}
+
+/// The first column is words, the others are numbers.
+fn terminal(title: &str, head: &[&str], rows: &[Vec<String>]) -> String {
+    let head = head.iter().map(|name| name.to_string()).collect();
+    let all = || std::iter::once(&head).chain(rows);
+    let width = |k: usize| all().map(|row: &Vec<String>| row[k].len()).max().unwrap();
+    let mut text = title.to_string();
+    for row in all() {
+        text += &format!("\n  {:<1$}", row[0], width(0));
+        for (k, cell) in row.iter().enumerate().skip(1) {
+            text += &format!("  {cell:>0$}", width(k));
+        }
+    }
+    text + "\n"
 }
 
 pub fn number(n: f64) -> String {
