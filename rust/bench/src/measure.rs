@@ -32,3 +32,23 @@ pub fn least<const N: usize>(
     }
     best.map(|time| time.as_nanos() as f64 / calls as f64)
 }
+
+/// The time of a long run in nanoseconds, for each contender: of each of its parts the least over the
+/// rounds, summed. Parts run in order, so that each finds the caches as a whole run leaves them.
+pub fn least_of_parts<const N: usize>(
+    rounds: usize,
+    parts: usize,
+    mut run: [&mut dyn FnMut(usize); N],
+) -> [f64; N] {
+    let mut best = [(); N].map(|_| vec![Duration::MAX; parts]);
+    for _ in 0..rounds {
+        for (run, best) in run.iter_mut().zip(&mut best) {
+            for (part, best) in best.iter_mut().enumerate() {
+                let start = Instant::now();
+                run(part);
+                *best = start.elapsed().min(*best);
+            }
+        }
+    }
+    best.map(|times| times.iter().sum::<Duration>().as_nanos() as f64)
+}
