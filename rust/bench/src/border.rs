@@ -35,24 +35,31 @@ fn compare(chroma: bool, pic: [u32; 2], plane: &mut Plane<u16>) {
     assert!(plane.data[..] == ours, "the border differs: {pic:?}");
 }
 
-/// The original, ours, and ours refused at the last sample of the picture; all on one plane.
-fn times(rounds: usize, chroma: bool, pic: [u32; 2], plane: Plane<u16>) -> [f64; 3] {
+/// The original, ours, ours refused at the last sample of the picture, and the original after such a
+/// refusal, which has read the picture; all on one plane.
+fn times(rounds: usize, chroma: bool, pic: [u32; 2], plane: Plane<u16>) -> [f64; 4] {
     let last = last_sample(&plane);
     let plane = RefCell::new(plane);
+    let refused = || {
+        let mut plane = plane.borrow_mut();
+        let sample = std::mem::replace(&mut plane.data[last], 1024);
+        assert_eq!(ours::pad(chroma, pic, black_box(&mut plane.data)), 6);
+        plane.data[last] = sample;
+    };
+    let original = || pad_plane(black_box(&mut plane.borrow_mut()));
     least(
         rounds,
         1,
         [
-            &mut || pad_plane(black_box(&mut plane.borrow_mut())),
+            &mut || original(),
             &mut || {
                 let mut plane = plane.borrow_mut();
                 assert_eq!(ours::pad(chroma, pic, black_box(&mut plane.data)), 0);
             },
+            &mut || refused(),
             &mut || {
-                let mut plane = plane.borrow_mut();
-                let sample = std::mem::replace(&mut plane.data[last], 1024);
-                assert_eq!(ours::pad(chroma, pic, black_box(&mut plane.data)), 6);
-                plane.data[last] = sample;
+                refused();
+                original();
             },
         ],
     )
@@ -71,7 +78,7 @@ pub fn run(report: &mut Report) {
             compare(chroma, pic, &mut plane);
             let picture = plane.cfg.width * plane.cfg.height;
             let border = plane.data.len() - picture;
-            let [original, ours, refused] = times(report.rounds, chroma, pic, plane);
+            let [original, ours, refused, after] = times(report.rounds, chroma, pic, plane);
             let alone = ours - refused;
             rows.push(vec![
                 what.clone(),
@@ -83,6 +90,7 @@ pub fn run(report: &mut Report) {
                 format!("{:.3}", alone / border as f64),
                 format!("{:.2}", ours / original),
                 format!("{:.2}", alone / original),
+                format!("{:.2}", alone / (after - refused)),
                 report.judge(Some(&BORDER), &what, alone / original),
             ]);
         }
@@ -97,6 +105,7 @@ pub fn run(report: &mut Report) {
         "border a sample",
         "ours/original",
         "border/original",
+        "border/original after reading",
         "target",
     ];
     report.table("Border step: evc_pad, ns a call", &head, &rows);
