@@ -53,3 +53,4 @@ pub use mc::calls::{evc_mc_plane, mv_clip, Picture, References};
 pub use plane::calls::{pad, pad_plane, plane_config, plane_of};
 pub use plane::Plane;
 pub use util::calls::{evc_get_avail_inter, evc_get_motion, evc_get_mv_dir};
+pub use util::calls::{Direct, Motion, Words};

@@ -34,15 +34,65 @@ fn refp(poc: u32, list_poc0: u32, map: Option<&[i16]>) -> EvcRefP {
     refp
 }
 
-pub fn evc_get_avail_inter(b: &Block, words: &[u32]) -> u16 {
-    let map_scu: Vec<MCU> = words.iter().map(|word| MCU::from(*word)).collect();
-    let ([x_scu, y_scu], [w_scu, h_scu]) = scus(b);
-    let [cuw, cuh] = b.side.map(|side| side as usize);
-    super::evc_get_avail_inter(x_scu, y_scu, w_scu, h_scu, scup(b), cuw, cuh, &map_scu)
+/// Unit words, made once for many calls, which copy nothing.
+pub struct Words(Vec<MCU>);
+
+impl Words {
+    pub fn new(words: &[u32]) -> Self {
+        Words(words.iter().map(|word| MCU::from(*word)).collect())
+    }
+
+    pub fn evc_get_avail_inter(&self, b: &Block) -> u16 {
+        let ([x_scu, y_scu], [w_scu, h_scu]) = scus(b);
+        let [cuw, cuh] = b.side.map(|side| side as usize);
+        super::evc_get_avail_inter(x_scu, y_scu, w_scu, h_scu, scup(b), cuw, cuh, &self.0)
+    }
 }
 
-/// The Rust takes the collocated map of the given list's first reference; the other references
-/// have `decoy`.
+pub fn evc_get_avail_inter(b: &Block, words: &[u32]) -> u16 {
+    Words::new(words).evc_get_avail_inter(b)
+}
+
+/// The motion map and the references for the candidates of one list, made once for many calls.
+pub struct Motion {
+    lidx: usize,
+    map_mv: Vec<[[i16; MV_D]; REFP_NUM]>,
+    references: Vec<Vec<EvcRefP>>,
+}
+
+impl Motion {
+    /// The Rust takes the collocated map of the given list's first reference; the other references
+    /// have `decoy`.
+    pub fn new(lidx: usize, map: &[i16], col: Option<&[i16]>, decoy: Option<&[i16]>) -> Self {
+        let mut references: Vec<Vec<EvcRefP>> = (0..2)
+            .map(|_| (0..REFP_NUM).map(|_| refp(1, 2, decoy)).collect())
+            .collect();
+        references[0][lidx] = refp(1, 2, col);
+        Motion {
+            lidx,
+            map_mv: map_mv(map),
+            references,
+        }
+    }
+
+    pub fn evc_get_motion(&self, b: &Block, avail: u16, cand: &mut Candidates) {
+        let (_, [w_scu, _]) = scus(b);
+        let [cuw, cuh] = b.side.map(|side| side as usize);
+        super::evc_get_motion(
+            scup(b),
+            self.lidx,
+            &self.map_mv,
+            &self.references,
+            cuw,
+            cuh,
+            w_scu,
+            avail,
+            &mut cand.refi,
+            &mut cand.mv,
+        );
+    }
+}
+
 pub fn evc_get_motion(
     b: &Block,
     lidx: usize,
@@ -52,40 +102,41 @@ pub fn evc_get_motion(
     decoy: Option<&[i16]>,
     old: Candidates,
 ) -> Candidates {
-    let mut references: Vec<Vec<EvcRefP>> = (0..2)
-        .map(|_| (0..REFP_NUM).map(|_| refp(1, 2, decoy)).collect())
-        .collect();
-    references[0][lidx] = refp(1, 2, col);
-    let (_, [w_scu, _]) = scus(b);
-    let [cuw, cuh] = b.side.map(|side| side as usize);
-    let Candidates { mut mv, mut refi } = old;
-    super::evc_get_motion(
-        scup(b),
-        lidx,
-        &map_mv(map),
-        &references,
-        cuw,
-        cuh,
-        w_scu,
-        avail,
-        &mut refi,
-        &mut mv,
-    );
-    Candidates { mv, refi }
+    let mut cand = old;
+    Motion::new(lidx, map, col, decoy).evc_get_motion(b, avail, &mut cand);
+    cand
 }
 
-/// The Rust takes the collocated map of reference 1; reference 0 has `decoy`.
+/// Both references for direct vectors, made once for many calls.
+pub struct Direct {
+    poc: u32,
+    references: [EvcRefP; REFP_NUM],
+}
+
+impl Direct {
+    /// The Rust takes the collocated map of reference 1; reference 0 has `decoy`.
+    pub fn new(pocs: Pocs, col: Option<&[i16]>, decoy: Option<&[i16]>) -> Self {
+        Direct {
+            poc: pocs.poc,
+            references: [
+                refp(pocs.poc0, 54321, decoy),
+                refp(pocs.poc1, pocs.list_poc0, col),
+            ],
+        }
+    }
+
+    pub fn evc_get_mv_dir(&self, b: &Block) -> [Mv; 2] {
+        let mut mvp = [[1234; MV_D]; REFP_NUM];
+        super::evc_get_mv_dir(&self.references, self.poc as i32, scup(b), &mut mvp);
+        mvp
+    }
+}
+
 pub fn evc_get_mv_dir(
     b: &Block,
     pocs: Pocs,
     col: Option<&[i16]>,
     decoy: Option<&[i16]>,
 ) -> [Mv; 2] {
-    let references = [
-        refp(pocs.poc0, 54321, decoy),
-        refp(pocs.poc1, pocs.list_poc0, col),
-    ];
-    let mut mvp = [[1234; MV_D]; REFP_NUM];
-    super::evc_get_mv_dir(&references, pocs.poc as i32, scup(b), &mut mvp);
-    mvp
+    Direct::new(pocs, col, decoy).evc_get_mv_dir(b)
 }
