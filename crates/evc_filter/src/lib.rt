@@ -15,97 +15,39 @@ pub struct Taps {
     pub d: u16,
 }
 
-// By phase: those of tbl_mc_l_coeff and of tbl_mc_c_coeff.
-const TAPS_L: [Taps; 4] = [
-    Taps {
-        a: 0,
-        b: 0,
-        c: 32,
-        d: 0,
-    },
-    Taps {
-        a: 1,
-        b: 5,
-        c: 26,
-        d: 10,
-    },
-    Taps {
-        a: 2,
-        b: 10,
-        c: 20,
-        d: 20,
-    },
-    Taps {
-        a: 1,
-        b: 5,
-        c: 10,
-        d: 26,
-    },
-];
+fn sizes(a: u16, b: u16, c: u16, d: u16) -> Taps
+    ensures { λ r. ⌜ r ≡ record { a = a; b = b; c = c; d = d } ⌝ }
+{
+    Taps { a, b, c, d }
+}
 
-const TAPS_C: [Taps; 8] = [
-    Taps {
-        a: 0,
-        b: 0,
-        c: 32,
-        d: 0,
-    },
-    Taps {
-        a: 0,
-        b: 2,
-        c: 29,
-        d: 5,
-    },
-    Taps {
-        a: 0,
-        b: 4,
-        c: 26,
-        d: 10,
-    },
-    Taps {
-        a: 0,
-        b: 6,
-        c: 23,
-        d: 15,
-    },
-    Taps {
-        a: 0,
-        b: 8,
-        c: 20,
-        d: 20,
-    },
-    Taps {
-        a: 0,
-        b: 6,
-        c: 15,
-        d: 23,
-    },
-    Taps {
-        a: 0,
-        b: 4,
-        c: 10,
-        d: 26,
-    },
-    Taps {
-        a: 0,
-        b: 2,
-        c: 5,
-        d: 29,
-    },
-];
-
+// By phase: those of tbl_mc_l_coeff and of tbl_mc_c_coeff. A match, since a look-up in a constant array copies the array first.
 fn taps_l(phase: usize) -> Taps
     requires { ⌜ phase < 4 ⌝ }
     ensures { λ r. ⌜ r ≡ tapsOf PlaneType.Y phase ⌝ }
 {
-    TAPS_L[phase]
+    match phase {
+        0 => sizes(0, 0, 32, 0),
+        1 => sizes(1, 5, 26, 10),
+        2 => sizes(2, 10, 20, 20),
+        _ => sizes(1, 5, 10, 26),
+    }
 }
 
 fn taps_c(phase: usize) -> Taps
     requires { ⌜ phase < 8 ⌝ }
     ensures { λ r. ⌜ r ≡ tapsOf PlaneType.UV phase ⌝ }
 {
-    TAPS_C[phase]
+    match phase {
+        0 => sizes(0, 0, 32, 0),
+        1 => sizes(0, 2, 29, 5),
+        2 => sizes(0, 4, 26, 10),
+        3 => sizes(0, 6, 23, 15),
+        4 => sizes(0, 8, 20, 20),
+        5 => sizes(0, 6, 15, 23),
+        6 => sizes(0, 4, 10, 26),
+        _ => sizes(0, 2, 5, 29),
+    }
 }
 
 pub fn taps_of(t: PlaneType, phase: usize) -> Taps
