@@ -159,14 +159,29 @@ fn pair(mv: EvcMv) -> Mv {
     [mv.x, mv.y]
 }
 
+/// An empty buffer is lent as C's callers do it, without a place.
+fn pointer<T>(buffer: &[T]) -> *const T {
+    match buffer {
+        [] => std::ptr::null(),
+        _ => buffer.as_ptr(),
+    }
+}
+
+fn pointer_mut<T>(buffer: &mut [T]) -> *mut T {
+    match buffer {
+        [] => std::ptr::null_mut(),
+        _ => buffer.as_mut_ptr(),
+    }
+}
+
 // SAFETY, of all calls below: every pointer goes with the length of its slice.
 impl Calls for Archive {
     fn pad(&self, chroma: bool, [pic_w, pic_h]: [u32; 2], plane: &mut [u16]) -> u32 {
-        unsafe { evc_pad(chroma, pic_w, pic_h, plane.as_mut_ptr(), plane.len()) }
+        unsafe { evc_pad(chroma, pic_w, pic_h, pointer_mut(plane), plane.len()) }
     }
 
     fn get_avail_inter(&self, b: &Block, words: &[u32]) -> (u32, u16) {
-        let r = unsafe { evc_get_avail_inter(block(b), words.as_ptr(), words.len()) };
+        let r = unsafe { evc_get_avail_inter(block(b), pointer(words), words.len()) };
         (r.code, r.avail)
     }
 
@@ -179,8 +194,8 @@ impl Calls for Archive {
         col: Collocated,
         cand: &mut EvcCandidates,
     ) -> u32 {
-        let (map_mv, len) = (map.as_ptr(), map.len());
-        let (col_mv, col_len) = (col.map.as_ptr(), col.map.len());
+        let (map_mv, len) = (pointer(map), map.len());
+        let (col_mv, col_len) = (pointer(col.map), col.map.len());
         let has_col = col.is_present;
         unsafe {
             evc_get_motion(
@@ -198,7 +213,7 @@ impl Calls for Archive {
     }
 
     fn get_mv_dir(&self, b: &Block, p: Pocs, col: Collocated) -> (u32, [Mv; 2]) {
-        let (col_mv, col_len) = (col.map.as_ptr(), col.map.len());
+        let (col_mv, col_len) = (pointer(col.map), col.map.len());
         let has_col = col.is_present;
         let r = unsafe {
             evc_get_mv_dir(
@@ -231,9 +246,9 @@ impl Calls for Archive {
                 vector(c.gmv),
                 w,
                 h,
-                plane.as_ptr(),
+                pointer(plane),
                 plane.len(),
-                pred.as_mut_ptr(),
+                pointer_mut(pred),
                 pred.len(),
             )
         }
@@ -250,22 +265,22 @@ impl Calls for Archive {
             evc_mc2(
                 block(b),
                 list0,
-                y0.as_ptr(),
+                pointer(y0),
                 y0.len(),
-                u0.as_ptr(),
+                pointer(u0),
                 u0.len(),
-                v0.as_ptr(),
+                pointer(v0),
                 v0.len(),
                 list1,
-                y1.as_ptr(),
+                pointer(y1),
                 y1.len(),
-                u1.as_ptr(),
+                pointer(u1),
                 u1.len(),
-                v1.as_ptr(),
+                pointer(v1),
                 v1.len(),
-                pred0.as_mut_ptr(),
+                pointer_mut(pred0),
                 pred0.len(),
-                pred1.as_mut_ptr(),
+                pointer_mut(pred1),
                 pred1.len(),
             )
         }

@@ -67,20 +67,26 @@ impl<T: Copy> Guarded<T> {
         unsafe { self.at.add(PAGE + skip).cast() }
     }
 
-    fn allow(&mut self, prot: i32) {
-        // SAFETY: nothing refers to the contents, since `self` is ours.
-        unsafe { sys::protect(self.at.add(PAGE), self.room, prot) };
+    /// Of the pages that hold `len` of the contents from `first` on, at both places.
+    fn allow(&mut self, first: usize, len: usize, prot: i32) {
+        for press in PRESSES {
+            let start = self.start(press, self.len).wrapping_add(first) as usize;
+            let end = start + len * size_of::<T>();
+            let (start, end) = (start / PAGE * PAGE, end.next_multiple_of(PAGE));
+            // SAFETY: nothing refers to the contents, since `self` is ours.
+            unsafe { sys::protect(start as *mut u8, end - start, prot) };
+        }
     }
 
     /// Takes these contents, at both places; until the next time a write to them ends the process.
     pub fn hold(&mut self, contents: &[T]) {
+        self.allow(0, self.len, PROT_READ | PROT_WRITE);
         self.make_room(contents.len());
-        self.allow(PROT_READ | PROT_WRITE);
         self.len = contents.len();
         for press in PRESSES {
             self.write(press, contents);
         }
-        self.allow(PROT_READ);
+        self.allow(0, self.len, PROT_READ);
     }
 
     /// The contents, or, if `len` is less, as many of them at that end.
@@ -97,12 +103,12 @@ impl<T: Copy> Guarded<T> {
     /// Changes one of the contents, at both places, and says what it was.
     pub fn put(&mut self, index: usize, value: T) -> T {
         let old = self.lend(Press::Front, self.len)[index];
-        self.allow(PROT_READ | PROT_WRITE);
+        self.allow(index, 1, PROT_READ | PROT_WRITE);
         for press in PRESSES {
             // SAFETY: inside of what `hold` filled.
             unsafe { *self.start(press, self.len).add(index) = value };
         }
-        self.allow(PROT_READ);
+        self.allow(index, 1, PROT_READ);
         old
     }
 

@@ -18,10 +18,10 @@ use cases::one_plane::Planes;
 use cases::padding::Padding;
 use cases::units::{Directs, Flags, Motions};
 use cases::Case;
-use run::Counts;
+use run::{Counts, Run};
 use std::io::Write;
 use std::time::{Duration, Instant};
-use sys::End;
+use sys::{End, ALARM};
 
 const USAGE: &str = "compare [--seconds N] [--seed S] [--call NAME [--case N]]";
 
@@ -71,19 +71,24 @@ fn say(line: &str) {
 /// Runs what is asked of one call; whether all agreed.
 fn compare<C: Case>(calls: &dyn Calls, options: &Options, seconds: f64) -> bool {
     let (name, seed) = (C::NAME, options.seed);
+    let run = Run {
+        calls,
+        seed,
+        time_limit: 120,
+    };
     if let Some(number) = options.case {
         let Some(case) = run::case::<C>(seed, number) else {
             say(&format!("{name}: no case {number}"));
             return false;
         };
         say(&format!("{name}: case {number} of seed {seed}: {case:?}"));
-        let end = run::end_of(calls, &case, say);
+        let end = run.one(&case, say);
         say(&format!("{name}: {}", told_end(end)));
         return end == End::Code(0);
     }
     let start = Instant::now();
     let is_enough = |_| start.elapsed() >= Duration::from_secs_f64(seconds);
-    let (counts, failure) = run::run::<C>(calls, seed, is_enough);
+    let (counts, failure) = run.all::<C>(is_enough);
     let cases: u64 = counts.iter().flatten().sum();
     say(&format!("{name}: {cases} cases, {}", told(&counts)));
     let Some(failure) = failure else {
@@ -93,8 +98,11 @@ fn compare<C: Case>(calls: &dyn Calls, options: &Options, seconds: f64) -> bool 
     say(&format!("{name}: case {number} of seed {seed}: {end}"));
     say(&format!("{:?}", failure.case));
     say(&format!("smaller: {:?}", failure.smaller));
-    let end = run::end_of(calls, &failure.smaller, say);
-    say(&format!("{name}: FAILED, the smaller case: {}", told_end(end)));
+    let end = run.one(&failure.smaller, say);
+    say(&format!(
+        "{name}: FAILED, the smaller case: {}",
+        told_end(end)
+    ));
     false
 }
 
@@ -103,8 +111,10 @@ fn told_end(end: End) -> &'static str {
         End::Code(0) => "agrees",
         End::Code(101) => "panics",
         End::Code(_) => "differs",
-        End::Signal(14) => "does not end",
-        End::Signal(_) => "crashes: outside of what was lent, or a write to what was lent to be read",
+        ALARM => "does not end",
+        End::Signal(_) => {
+            "crashes: outside of what was lent, or a write to what was lent to be read"
+        }
     }
 }
 

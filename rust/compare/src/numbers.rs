@@ -159,15 +159,12 @@ pub fn spare(rng: &mut Rng) -> usize {
     [0, 0, 1, rng.below(40)][rng.below(4)]
 }
 
+/// 0, 4, then less by ever less, in multiples of 4 first.
 pub fn smaller_number(n: u32) -> Vec<u32> {
-    let mut less = vec![
-        0,
-        4,
-        n / 2 / 4 * 4,
-        n / 2,
-        n.saturating_sub(4),
-        n.saturating_sub(1),
-    ];
+    let steps = (1..32).map(|k| n - (n >> k));
+    let mut less = vec![0, 4];
+    less.extend(steps.clone().map(|m| m / 4 * 4));
+    less.extend(steps);
     less.retain(|m| *m < n);
     less.dedup();
     less
@@ -185,13 +182,10 @@ pub fn smaller_vectors(mv: Mv) -> Vec<Mv> {
         all.push([0, 0]);
     }
     for d in 0..2 {
-        let v = mv[d];
-        for less in [0, v / 2, v / 2 / 4 * 4, v - v.signum() * 4, v - v.signum()] {
-            if less.unsigned_abs() < v.unsigned_abs() {
-                let mut mv = mv;
-                mv[d] = less;
-                all.push(mv);
-            }
+        for less in smaller_number(mv[d].unsigned_abs().into()) {
+            let mut mv = mv;
+            mv[d] = less as i16 * mv[d].signum();
+            all.push(mv);
         }
     }
     all

@@ -32,16 +32,7 @@ pub const PAGE: usize = 4096;
 pub fn pages(len: usize, prot: c_int, is_shared: bool) -> *mut u8 {
     let kind = if is_shared { MAP_SHARED } else { MAP_PRIVATE };
     // SAFETY: new memory, at a place that the system chooses.
-    let at = unsafe {
-        mmap(
-            std::ptr::null_mut(),
-            len,
-            prot,
-            kind | MAP_ANONYMOUS,
-            -1,
-            0,
-        )
-    };
+    let at = unsafe { mmap(std::ptr::null_mut(), len, prot, kind | MAP_ANONYMOUS, -1, 0) };
     assert!(at as isize != -1, "no memory for {len} bytes");
     at.cast()
 }
@@ -65,7 +56,10 @@ pub enum End {
     Signal(i32),
 }
 
-/// A process may go on for this long from now; then signal 14 ends it.
+/// The end of a process that went on for too long.
+pub const ALARM: End = End::Signal(14);
+
+/// A process may go on for this long from now; then ALARM is its end.
 pub fn time_limit(seconds: u32) {
     // SAFETY: no handler is set, so the signal ends the process.
     unsafe { alarm(seconds) };

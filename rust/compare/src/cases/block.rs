@@ -4,10 +4,10 @@ use super::one_plane::{random_samples, Put};
 use super::*;
 use crate::guard::{Guarded, Press, PRESSES};
 use crate::lent::{old_samples, rust_plane, PlaneOf, Slot};
-use crate::numbers::{block, count, one_in, picture, seed, vector, Length};
+use crate::numbers::{block, count, one_in, seed, vector, Length};
 use crate::numbers::{smaller_blocks, smaller_number, smaller_spare, smaller_vectors, spare};
 use oracle::cases::BlockCall;
-use oracle::model::{self, PRED_LEN};
+use oracle::model::{self, Block, PRED_LEN};
 use oracle::Picture;
 
 /// The three planes of a picture.
@@ -34,19 +34,17 @@ pub struct Lent {
     rust: [Option<(PictureOf, Picture)>; 2],
 }
 
-impl Lent {
-    /// The planes of both lists; `which` says which picture each has.
-    pub fn lend(
-        &self,
-        press: Press,
-        which: [usize; 2],
-        lengths: &[[Length; 3]; 2],
-    ) -> [[&[u16]; 3]; 2] {
-        [0, 1].map(|list| {
-            [0, 1, 2].map(|k| self.planes[which[list]][k].lend(press, lengths[list][k]))
-        })
-    }
+/// The planes of both lists; `which` says which picture each has.
+fn lend<'a>(
+    planes: &'a [[Slot<PlaneOf>; 3]; 2],
+    press: Press,
+    which: [usize; 2],
+    lengths: &[[Length; 3]; 2],
+) -> [[&'a [u16]; 3]; 2] {
+    [0, 1].map(|list| [0, 1, 2].map(|k| planes[which[list]][k].lend(press, lengths[list][k])))
+}
 
+impl Lent {
     /// A list's picture for the Rust, the one that it has already if nothing about it changed.
     fn rust(&mut self, case: &Blocks, list: usize) -> Picture {
         let (which, pic) = (case.which(), case.call.b.pic);
@@ -55,7 +53,7 @@ impl Lent {
         match &self.rust[which[list]] {
             Some((kept_for, picture)) if is_kept && kept_for == made_for => picture.clone(),
             _ => {
-                let planes = self.lend(Press::Back, which, &case.lengths)[list];
+                let planes = lend(&self.planes, Press::Back, which, &case.lengths)[list];
                 let picture = Picture::new([0, 1, 2].map(|k| rust_plane(k > 0, pic, planes[k])));
                 if is_kept {
                     self.rust[which[list]] = Some((made_for.clone(), picture.clone()));
@@ -81,6 +79,14 @@ impl Blocks {
         [0, usize::from(!self.is_shared)]
     }
 
+    /// This block, and planes for its picture.
+    fn make_for(&mut self, b: Block) {
+        self.call.b = b;
+        for plane in self.pictures.iter_mut().flatten() {
+            plane.pic = b.pic;
+        }
+    }
+
     fn old(&self) -> [Vec<u16>; 2] {
         [0, 1].map(|k| {
             let len = self.pred_lengths[k].of(PRED_LEN + self.spare[k]);
@@ -92,11 +98,10 @@ impl Blocks {
     fn compare(&self, calls: &dyn Calls, lent: &mut Lent) -> Result<(u32, [Vec<u16>; 2]), String> {
         let old = self.old();
         let mut last = (0, old.clone());
-        let mut preds = std::mem::take(&mut lent.preds);
         for press in PRESSES {
-            let planes = lent.lend(press, self.which(), &self.lengths);
+            let planes = lend(&lent.planes, press, self.which(), &self.lengths);
             let lists = self.call.lists(planes);
-            let [pred0, pred1] = &mut preds;
+            let [pred0, pred1] = &mut lent.preds;
             let pred0 = pred0.lend_mut(press, &old[0]);
             let pred1 = pred1.lend_mut(press, &old[1]);
             let [mut want0, mut want1] = old.clone();
@@ -107,7 +112,6 @@ impl Blocks {
             assert_all_same("second block", pred1, &want1)?;
             last = (code, [want0, want1]);
         }
-        lent.preds = preds;
         Ok(last)
     }
 }
@@ -116,8 +120,7 @@ impl Case for Blocks {
     const NAME: &'static str = "evc_mc2";
     type Lent = Lent;
 
-    fn batch(rng: &mut Rng) -> Vec<Self> {
-        let pic = picture(rng);
+    fn batch(pic: [u32; 2], rng: &mut Rng) -> Vec<Self> {
         let pictures = [(); 2].map(|_| random_picture(pic, rng));
         let mut one = || {
             let b = block(pic, rng);
@@ -141,9 +144,10 @@ impl Case for Blocks {
                 };
                 (list, plane, Put::random(&c, rng))
             });
+            let all_whole = !one_in(4, rng);
             let lengths = used.map(|used| {
                 [(); 3].map(|_| match used || one_in(4, rng) {
-                    true if one_in(2, rng) => Length::Whole,
+                    true if all_whole => Length::Whole,
                     true => Length::random(rng),
                     false => Length::Empty,
                 })
@@ -154,7 +158,10 @@ impl Case for Blocks {
                 is_shared: one_in(6, rng),
                 lengths,
                 spare: [(); 2].map(|_| spare(rng)),
-                pred_lengths: [(); 2].map(|_| Length::random(rng)),
+                pred_lengths: [(); 2].map(|_| match one_in(4, rng) {
+                    true => Length::random(rng),
+                    false => Length::Whole,
+                }),
                 seed: seed(rng),
                 put,
             }
@@ -212,17 +219,16 @@ impl Case for Blocks {
         for list in (0..2).filter(|list| self.call.used[*list]) {
             with(&|case| case.call.used[list] = false);
         }
+        let made_for = self.pictures[0][0].pic;
         for b in smaller_blocks(&self.call.b) {
-            let made_for = self.pictures[0][0].pic;
             if self.call.b.pic == made_for && !model::is_picture_refused(b.pic) {
-                with(&|case| {
-                    case.call.b = b;
-                    for plane in case.pictures.iter_mut().flatten() {
-                        plane.pic = b.pic;
-                    }
-                });
+                with(&|case| case.make_for(b));
             }
             with(&|case| case.call.b = b);
+        }
+        let b = self.call.b;
+        if b.pic != made_for && !model::is_picture_refused(b.pic) {
+            with(&|case| case.make_for(b));
         }
         for list in 0..2 {
             for mv in smaller_vectors(self.call.mv[list]) {

@@ -23,7 +23,7 @@ impl Case for Clipping {
     const NAME: &'static str = "evc_mv_clip";
     type Lent = ();
 
-    fn batch(rng: &mut Rng) -> Vec<Self> {
+    fn batch(_: [u32; 2], rng: &mut Rng) -> Vec<Self> {
         let mut one = || {
             let b = block(any_picture(rng), rng);
             let mv = vector(&b, rng);

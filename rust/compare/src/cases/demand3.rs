@@ -4,7 +4,7 @@ use super::block::{random_used, PictureOf};
 use super::*;
 use crate::guard::{Guarded, Press};
 use crate::lent::{old_samples, Border, PlaneOf, Samples, Slot};
-use crate::numbers::{one_in, picture, seed, vector, Length};
+use crate::numbers::{one_in, seed, vector, Length};
 use crate::numbers::{smaller_blocks, smaller_number, smaller_vectors};
 use oracle::cases::{random_block, BlockCall};
 use oracle::model::{self, Block, OFFSETS, PRED_LEN};
@@ -112,8 +112,7 @@ impl Case for Demand3 {
     const NAME: &'static str = "demand3";
     type Lent = Lent;
 
-    fn batch(rng: &mut Rng) -> Vec<Self> {
-        let pic = picture(rng);
+    fn batch(pic: [u32; 2], rng: &mut Rng) -> Vec<Self> {
         let pictures = [(); 2].map(|_| {
             let samples = [Samples::Allowed, Samples::Extreme][rng.below(2)];
             let chroma = [false, true, true];

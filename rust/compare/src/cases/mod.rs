@@ -23,8 +23,8 @@ pub trait Case: Clone + Debug {
     const NAME: &'static str;
     /// Buffers that are kept from case to case.
     type Lent: Default;
-    /// Cases that share most of what is lent.
-    fn batch(rng: &mut Rng) -> Vec<Self>;
+    /// Cases that share most of what is lent, made for this picture.
+    fn batch(pic: [u32; 2], rng: &mut Rng) -> Vec<Self>;
     /// An error says what differs.
     fn run(&self, calls: &dyn Calls, lent: &mut Self::Lent) -> Outcome;
     /// Simpler cases, much simpler ones first. No endless chain of them.

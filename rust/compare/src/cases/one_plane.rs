@@ -3,7 +3,7 @@
 use super::*;
 use crate::guard::{Guarded, Press, PRESSES};
 use crate::lent::{old_samples, rust_plane, Border, PlaneOf, Samples, Slot};
-use crate::numbers::{one_in, picture, seed, smaller_number, smaller_vectors, wild, Length};
+use crate::numbers::{one_in, seed, smaller_number, smaller_vectors, wild, Length};
 use oracle::cases::{fractions, plane_sides, set_vectors, STARTS};
 use oracle::model::{self, OnePlane};
 use oracle::Plane;
@@ -101,10 +101,10 @@ impl Case for Planes {
     const NAME: &'static str = "evc_mc_plane";
     type Lent = Lent;
 
-    fn batch(rng: &mut Rng) -> Vec<Self> {
+    fn batch(pic: [u32; 2], rng: &mut Rng) -> Vec<Self> {
         let chroma = one_in(2, rng);
         let (samples, border) = random_samples(rng);
-        let plane = PlaneOf::random(chroma, picture(rng), samples, border, rng);
+        let plane = PlaneOf::random(chroma, pic, samples, border, rng);
         let fractions = fractions(chroma);
         let mut one = || {
             let mut c = OnePlane::over(chroma, plane.pic);
@@ -193,6 +193,9 @@ impl Case for Planes {
             for side in smaller_number(self.c.side[d]) {
                 with(&|case| case.c.side[d] = side);
             }
+        }
+        if self.c.pic != self.plane.pic && !model::is_picture_refused(self.c.pic) {
+            with(&|case| (case.plane.chroma, case.plane.pic) = (case.c.chroma, case.c.pic));
         }
         for mv in smaller_vectors(self.c.ori_mv) {
             with(&|case| case.c.ori_mv = mv);

@@ -3,7 +3,7 @@
 use super::*;
 use crate::guard::{Guarded, PRESSES};
 use crate::lent::{Border, Contents, PlaneOf, Samples};
-use crate::numbers::{one_in, picture, smaller_number, wild, Length};
+use crate::numbers::{one_in, smaller_number, wild, Length};
 use oracle::model;
 
 #[derive(Clone, Debug)]
@@ -27,23 +27,22 @@ impl Case for Padding {
     const NAME: &'static str = "evc_pad";
     type Lent = Lent;
 
-    fn batch(rng: &mut Rng) -> Vec<Self> {
+    fn batch(pic: [u32; 2], rng: &mut Rng) -> Vec<Self> {
         let chroma = one_in(2, rng);
-        let base = picture(rng);
         let samples = [Samples::Allowed, Samples::Extreme, Samples::Sparse][rng.below(3)];
         let border = Border::Has([Samples::Allowed, Samples::Any][rng.below(2)]);
-        let plane = PlaneOf::random(chroma, base, samples, border, rng);
+        let plane = PlaneOf::random(chroma, pic, samples, border, rng);
         let mut one = || {
             let mut case = Padding {
                 chroma,
-                pic: base,
+                pic,
                 plane: plane.clone(),
                 length: Length::random(rng),
                 put: None,
             };
             if one_in(8, rng) {
                 let d = rng.below(2);
-                case.pic[d] = wild(base[d], rng);
+                case.pic[d] = wild(pic[d], rng);
                 case.chroma ^= one_in(4, rng);
             }
             if one_in(4, rng) {
@@ -104,6 +103,14 @@ impl Case for Padding {
                     case.plane.pic = case.pic;
                     all.insert(0, case);
                 }
+            }
+        }
+        if self.pic != self.plane.pic && !model::is_picture_refused(self.pic) {
+            for spare in [self.plane.spare, 1] {
+                let mut case = self.clone();
+                (case.plane.chroma, case.plane.pic) = (self.chroma, self.pic);
+                case.plane.spare = spare;
+                all.push(case);
             }
         }
         for length in self.length.smaller() {

@@ -4,7 +4,7 @@ use super::*;
 use crate::archive::EvcCandidates;
 use crate::guard::{Guarded, PRESSES};
 use crate::lent::{Motion, Slot, Words};
-use crate::numbers::{block, count, one_in, picture, wild, Length};
+use crate::numbers::{block, count, one_in, wild, Length};
 use crate::numbers::{smaller_blocks, smaller_number, smaller_spare};
 use oracle::model::{self, Block, Candidates, Collocated, Pocs};
 
@@ -16,6 +16,9 @@ fn smaller_with(b: &Block, made_for: [u32; 2]) -> Vec<(Block, [u32; 2])> {
             all.push((smaller, smaller.pic));
         }
         all.push((smaller, made_for));
+    }
+    if b.pic != made_for && !model::is_picture_refused(b.pic) {
+        all.push((*b, b.pic));
     }
     all
 }
@@ -31,8 +34,8 @@ impl Case for Flags {
     const NAME: &'static str = "evc_get_avail_inter";
     type Lent = Slot<Words>;
 
-    fn batch(rng: &mut Rng) -> Vec<Self> {
-        let words = Words::random(picture(rng), rng);
+    fn batch(pic: [u32; 2], rng: &mut Rng) -> Vec<Self> {
+        let words = Words::random(pic, rng);
         let mut one = || Flags {
             b: block(words.pic, rng),
             words: words.clone(),
@@ -127,8 +130,7 @@ impl Case for Motions {
     const NAME: &'static str = "evc_get_motion";
     type Lent = Lent;
 
-    fn batch(rng: &mut Rng) -> Vec<Self> {
-        let pic = picture(rng);
+    fn batch(pic: [u32; 2], rng: &mut Rng) -> Vec<Self> {
         let [map, col] = [(); 2].map(|_| Motion::random(pic, rng));
         let mut one = || {
             let b = block(pic, rng);
@@ -173,8 +175,7 @@ impl Case for Motions {
             let got = calls.get_motion(b, lidx, avail, map, col, cand);
             assert_same("code and record", (got, candidates(*cand)), want)?;
             code = want.0;
-            // the Rust is handed copies of both maps
-            if code == 0 && map.len() < 1 << 16 {
+            if code == 0 {
                 let col = self.has_col.then_some(col.map);
                 let rust =
                     oracle::evc_get_motion(b, lidx as usize, avail, map, col, Some(map), old);
@@ -235,8 +236,8 @@ impl Case for Directs {
     const NAME: &'static str = "evc_get_mv_dir";
     type Lent = Slot<Motion>;
 
-    fn batch(rng: &mut Rng) -> Vec<Self> {
-        let col = Motion::random(picture(rng), rng);
+    fn batch(pic: [u32; 2], rng: &mut Rng) -> Vec<Self> {
+        let col = Motion::random(pic, rng);
         let mut one = || {
             let has_col = !one_in(8, rng);
             let [poc, poc0, poc1, mut list_poc0] = match rng.below(3) {
