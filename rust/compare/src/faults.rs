@@ -14,7 +14,7 @@ use oracle::model::{self, Block, Collocated, List, Mv, OnePlane, Pocs, PRED_LEN}
 
 #[derive(Clone, Copy, PartialEq)]
 enum Fault {
-    None,
+    NoFault,
     /// The last sample of a plane of the picture changes.
     PadsWrong,
     /// The first spare sample of a plane changes.
@@ -199,7 +199,7 @@ const CRASHES: End = End::Signal(11);
 fn no_fault() {
     fn assert_none<C: Case>() {
         let run = Run {
-            calls: &Faulty(None),
+            calls: &Faulty(NoFault),
             seed: 3,
             time_limit: 120,
         };
@@ -215,6 +215,24 @@ fn no_fault() {
     assert_none::<Planes>();
     assert_none::<Blocks>();
     assert_none::<Demand3>();
+}
+
+/// The lines of a run that fails: `cargo test -p compare told -- --nocapture`.
+#[test]
+fn told() {
+    let options = crate::Options {
+        seconds: 1.0,
+        seed: 3,
+        call: None,
+        case: None,
+    };
+    assert!(!crate::compare::<Blocks>(&Faulty(OneSample), &options, 1.0));
+    assert!(!crate::compare::<Flags>(
+        &Faulty(ReadsBehind),
+        &options,
+        1.0
+    ));
+    assert!(crate::compare::<Flags>(&Faulty(NoFault), &options, 1.0));
 }
 
 #[test]
