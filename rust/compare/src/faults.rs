@@ -37,6 +37,8 @@ enum Fault {
     WritesFirst,
     /// Puts back a sample of the plane that was lent to be read.
     WritesPlane,
+    /// Puts back the sample behind the lent block.
+    WritesBehind,
     /// One sample of a wide block from two lists.
     OneSample,
     /// The second block is used with one list too.
@@ -123,6 +125,10 @@ impl Calls for Faulty {
             WritesPlane if code == 0 => unsafe {
                 let first = plane.as_ptr() as *mut u16;
                 std::ptr::write_volatile(first, *first);
+            },
+            WritesBehind if code == 0 => unsafe {
+                let behind = pred.as_mut_ptr().add(pred.len());
+                std::ptr::write_volatile(behind, *behind);
             },
             _ => (),
         }
@@ -275,6 +281,7 @@ fn of_one_plane() {
     let small = ["ori_mv: [0, 0]", "pic: [4, 4]"];
     assert_noticed::<Planes>(WritesFirst, DIFFERS, &small);
     assert_noticed::<Planes>(WritesPlane, CRASHES, &small);
+    assert_noticed::<Planes>(WritesBehind, CRASHES, &small);
 }
 
 #[test]

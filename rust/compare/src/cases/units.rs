@@ -146,7 +146,7 @@ impl Case for Motions {
                 length: Length::random(rng),
                 has_col,
                 col: col.clone(),
-                col_length: match has_col {
+                col_length: match has_col || one_in(2, rng) {
                     true => Length::random(rng),
                     false => Length::Empty,
                 },
@@ -258,7 +258,7 @@ impl Case for Directs {
                 },
                 has_col,
                 col: col.clone(),
-                col_length: match has_col {
+                col_length: match has_col || one_in(2, rng) {
                     true => Length::random(rng),
                     false => Length::Empty,
                 },
