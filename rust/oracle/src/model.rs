@@ -1,5 +1,4 @@
-//! The three calls of util.rs, one-plane and block prediction as document 01 tells them, refusals
-//! included. Written from its sentences, which are quoted, and not from the Rust: samples and
+//! Every call as document 01 tells it, refusals included. Written from its sentences, which are quoted, and not from the Rust: samples and
 //! whole numbers, one unit or one sample at a time.
 
 pub type Mv = [i16; 2];
@@ -29,7 +28,7 @@ pub struct Pocs {
 }
 
 /// "Picture sides W and H are multiples of 4 from 4 to 8128."
-fn is_picture_refused(pic: [u32; 2]) -> bool {
+pub fn is_picture_refused(pic: [u32; 2]) -> bool {
     !pic.iter().all(|n| n % 4 == 0 && (4..=8128).contains(n))
 }
 
@@ -40,7 +39,7 @@ impl Block {
 
     /// "A block has sides 4, 8, 16, 32 or 64, chosen separately; its place is a multiple of 4; it
     /// lies wholly inside the picture."
-    fn is_block_refused(&self) -> bool {
+    pub fn is_block_refused(&self) -> bool {
         !(0..2).all(|d| {
             let [pic, place, side] = [self.pic[d], self.place[d], self.side[d]].map(u64::from);
             [4, 8, 16, 32, 64].contains(&side) && place % 4 == 0 && place + side <= pic
@@ -213,6 +212,17 @@ pub struct OnePlane {
 }
 
 impl OnePlane {
+    /// Any call on a plane, for the plane's sizes.
+    pub fn over(chroma: bool, pic: [u32; 2]) -> Self {
+        OnePlane {
+            chroma,
+            pic,
+            ori_mv: [0; 2],
+            gmv: [0; 2],
+            side: [0; 2],
+        }
+    }
+
     /// "Luma pad 80, chroma pad 40. The left origin is the pad rounded up to a multiple of 16: 80
     /// and 48."
     pub fn origin(&self) -> [i64; 2] {
@@ -230,7 +240,7 @@ impl OnePlane {
     }
 
     /// "Stride is left origin + width + pad, rounded up to 16."
-    fn stride(&self) -> i64 {
+    pub fn stride(&self) -> i64 {
         let ([left, pad], [width, _]) = (self.origin(), self.size());
         (left + width + pad + 15) / 16 * 16
     }
@@ -247,16 +257,20 @@ impl OnePlane {
     }
 
     /// "One-plane prediction takes these sides for luma and half of them for chroma"
-    fn is_block_refused(&self) -> bool {
+    pub fn is_block_refused(&self) -> bool {
         let part = 1 + u32::from(self.chroma);
         let allowed = [4, 8, 16, 32, 64].map(|side| side / part);
         !self.side.iter().all(|side| allowed.contains(side))
     }
 
-    /// The sample that the plane holds for column i and row j of the picture.
-    fn held(&self, plane: &[u16], i: i64, j: i64) -> i64 {
+    /// Where the plane holds the sample of column i and row j of the picture.
+    pub fn index(&self, i: i64, j: i64) -> i64 {
         let [left, pad] = self.origin();
-        i64::from(plane[((pad + j) * self.stride() + left + i) as usize])
+        (pad + j) * self.stride() + left + i
+    }
+
+    fn held(&self, plane: &[u16], i: i64, j: i64) -> i64 {
+        i64::from(plane[self.index(i, j) as usize])
     }
 
     /// Fractions of a sample that a position counts: "its low 2 bits, and the position >> 2; chroma 3"
@@ -352,10 +366,13 @@ impl OnePlane {
 
     /// "Samples examined for 6: from the clamped start of the two-direction path, w + 5 by h + 5
     /// (chroma + 3)."
-    fn is_sample_refused(&self, plane: &[u16]) -> bool {
-        let [x, y] = self.start([true; 2]);
+    pub fn window(&self) -> ([i64; 2], [usize; 2]) {
         let more = if self.chroma { 3 } else { 5 };
-        let [w, h] = self.side.map(|n| n as usize + more);
+        (self.start([true; 2]), self.side.map(|n| n as usize + more))
+    }
+
+    fn is_sample_refused(&self, plane: &[u16]) -> bool {
+        let ([x, y], [w, h]) = self.window();
         places(w, h).any(|(c, r)| self.held(plane, x + c as i64, y + r as i64) > 1023)
     }
 
@@ -389,19 +406,65 @@ fn hold(value: i64) -> u16 {
 
 /// 'One plane': the number returned; `pred` becomes what it holds afterwards.
 pub fn one_plane(c: &OnePlane, plane: &[u16], pred: &mut [u16]) -> u32 {
-    let code = first_refusal(&[
-        (1, is_picture_refused(c.pic)),
-        (2, c.is_block_refused()),
-        (4, plane.len() < c.plane_len() || pred.len() < c.block_len()),
-    ]);
+    let code = first_refusal(&[(1, is_picture_refused(c.pic)), (2, c.is_block_refused())]);
     if code != 0 {
         return code;
+    }
+    if plane.len() < c.plane_len() || pred.len() < c.block_len() {
+        return 4;
     }
     if c.is_sample_refused(plane) {
         return 6;
     }
     pred[..c.block_len()].copy_from_slice(&c.block(plane));
     0
+}
+
+/// 'Planes': the number returned; `plane` becomes what it holds afterwards.
+pub fn pad(chroma: bool, pic: [u32; 2], plane: &mut [u16]) -> u32 {
+    if is_picture_refused(pic) {
+        return 1;
+    }
+    let c = OnePlane::over(chroma, pic);
+    if plane.len() < c.plane_len() {
+        return 4;
+    }
+    let stride = c.stride() as usize;
+    let [left, above] = c.origin().map(|n| n as usize);
+    let [right, below] = [0, 1].map(|d| (c.origin()[d] + c.size()[d]) as usize);
+    let rows = &mut plane[..c.plane_len()];
+    // "6 (picture samples)"
+    let mut picture = rows.chunks(stride).skip(above).take(below - above);
+    if picture.any(|row| row[left..right].iter().any(|sample| *sample > 1023)) {
+        return 6;
+    }
+    // "fills left, then all columns right of the picture to the stride"
+    for row in rows.chunks_mut(stride).skip(above).take(below - above) {
+        let [first, last] = [row[left], row[right - 1]];
+        row[..left].fill(first);
+        row[right..].fill(last);
+    }
+    // "then copies the first and last full rows outward"
+    for r in 0..above {
+        rows.copy_within(above * stride..(above + 1) * stride, r * stride);
+    }
+    for r in below..rows.len() / stride {
+        rows.copy_within((below - 1) * stride..below * stride, r * stride);
+    }
+    0
+}
+
+/// 'Clipping': the number returned and the vector.
+pub fn clip(b: &Block, mv: Mv) -> (u32, Mv) {
+    let code = first_refusal(&[(1, b.is_picture_refused()), (2, b.is_block_refused())]);
+    if code != 0 {
+        return (code, [0, 0]);
+    }
+    let clipped = |d| {
+        let [pic, x, w, mvx] = b.component(mv, d);
+        clipped(pic, x, w, mvx) as i16
+    };
+    (0, [clipped(0), clipped(1)])
 }
 
 /// 'Clipping' in one direction, with the exact sums: "if 4x + mvx < -256, the vector becomes -256 - 4x;

@@ -1,7 +1,7 @@
 //! The Rust's `Plane::pad` against document 01, 'Planes', by position.
 
 use oracle::cases::{Padding, Rng};
-use oracle::plane_config;
+use oracle::{model, plane_config};
 
 /// The sample that document 01 gives to column x and row y: the picture's, at the column and row
 /// held to the picture.
@@ -25,6 +25,11 @@ fn assert_padded(r: Padding) {
         }
     }
     assert_eq!(spare, &before[rows.len()..], "{r:?}");
+
+    let mut by_the_document = before;
+    let pic = [r.pic_w as u32, r.pic_h as u32];
+    assert_eq!(model::pad(r.chroma, pic, &mut by_the_document), 0, "{r:?}");
+    assert!(by_the_document == after, "{r:?}");
 }
 
 /// Every allowed side up to 36, both ways, and some larger ones.

@@ -1,0 +1,288 @@
+//! The calls of the archive, as include/evc_inter.h has them.
+
+use oracle::model::{Block, Collocated, List, Mv, OnePlane, Pocs};
+
+#[repr(C)]
+#[derive(Clone, Copy)]
+struct EvcMv {
+    x: i16,
+    y: i16,
+}
+
+#[repr(C)]
+struct EvcBlock {
+    pic_w: u32,
+    pic_h: u32,
+    x: u32,
+    y: u32,
+    w: u32,
+    h: u32,
+}
+
+#[repr(C)]
+struct EvcList {
+    used: bool,
+    mv: EvcMv,
+    poc: u32,
+}
+
+#[repr(C)]
+struct EvcAvail {
+    code: u32,
+    avail: u16,
+}
+
+#[repr(C)]
+struct EvcClipped {
+    code: u32,
+    mv: EvcMv,
+}
+
+#[repr(C)]
+struct EvcDirect {
+    code: u32,
+    mv0: EvcMv,
+    mv1: EvcMv,
+}
+
+/// left, up, up_right, collocated
+#[repr(C)]
+#[derive(Clone, Copy, Debug, PartialEq)]
+pub struct EvcCandidates {
+    pub mv: [[i16; 2]; 4],
+    pub refi: [i8; 4],
+}
+
+extern "C" {
+    fn evc_pad(chroma: bool, pic_w: u32, pic_h: u32, plane: *mut u16, plane_len: usize) -> u32;
+    fn evc_get_avail_inter(block: EvcBlock, map_scu: *const u32, map_scu_len: usize) -> EvcAvail;
+    fn evc_get_motion(
+        block: EvcBlock,
+        lidx: u32,
+        avail: u16,
+        map_mv: *const i16,
+        map_mv_len: usize,
+        has_col: bool,
+        col_mv: *const i16,
+        col_mv_len: usize,
+        cand: *mut EvcCandidates,
+    ) -> u32;
+    fn evc_get_mv_dir(
+        block: EvcBlock,
+        poc: u32,
+        poc0: u32,
+        poc1: u32,
+        list_poc0: u32,
+        has_col: bool,
+        col_mv: *const i16,
+        col_mv_len: usize,
+    ) -> EvcDirect;
+    fn evc_mv_clip(block: EvcBlock, mv: EvcMv) -> EvcClipped;
+    fn evc_mc_plane(
+        chroma: bool,
+        pic_w: u32,
+        pic_h: u32,
+        ori_mv: EvcMv,
+        gmv: EvcMv,
+        w: u32,
+        h: u32,
+        plane: *const u16,
+        plane_len: usize,
+        pred: *mut u16,
+        pred_len: usize,
+    ) -> u32;
+    fn evc_mc2(
+        block: EvcBlock,
+        list0: EvcList,
+        y0: *const u16,
+        y0_len: usize,
+        u0: *const u16,
+        u0_len: usize,
+        v0: *const u16,
+        v0_len: usize,
+        list1: EvcList,
+        y1: *const u16,
+        y1_len: usize,
+        u1: *const u16,
+        u1_len: usize,
+        v1: *const u16,
+        v1_len: usize,
+        pred0: *mut u16,
+        pred0_len: usize,
+        pred1: *mut u16,
+        pred1_len: usize,
+    ) -> u32;
+}
+
+/// Whoever is compared: the archive, or a faulty one in a test.
+pub trait Calls {
+    fn pad(&self, chroma: bool, pic: [u32; 2], plane: &mut [u16]) -> u32;
+    fn get_avail_inter(&self, b: &Block, words: &[u32]) -> (u32, u16);
+    fn get_motion(
+        &self,
+        b: &Block,
+        lidx: u32,
+        avail: u16,
+        map: &[i16],
+        col: Collocated,
+        cand: &mut EvcCandidates,
+    ) -> u32;
+    fn get_mv_dir(&self, b: &Block, pocs: Pocs, col: Collocated) -> (u32, [Mv; 2]);
+    fn mv_clip(&self, b: &Block, mv: Mv) -> (u32, Mv);
+    fn mc_plane(&self, c: &OnePlane, plane: &[u16], pred: &mut [u16]) -> u32;
+    fn mc2(&self, b: &Block, lists: &[List; 2], pred0: &mut [u16], pred1: &mut [u16]) -> u32;
+}
+
+pub struct Archive;
+
+fn block(b: &Block) -> EvcBlock {
+    let Block {
+        pic: [pic_w, pic_h],
+        place: [x, y],
+        side: [w, h],
+    } = *b;
+    EvcBlock {
+        pic_w,
+        pic_h,
+        x,
+        y,
+        w,
+        h,
+    }
+}
+
+fn vector([x, y]: Mv) -> EvcMv {
+    EvcMv { x, y }
+}
+
+fn pair(mv: EvcMv) -> Mv {
+    [mv.x, mv.y]
+}
+
+/// An empty buffer is lent as C's callers do it, without a place.
+fn pointer<T>(buffer: &[T]) -> *const T {
+    match buffer {
+        [] => std::ptr::null(),
+        _ => buffer.as_ptr(),
+    }
+}
+
+fn pointer_mut<T>(buffer: &mut [T]) -> *mut T {
+    match buffer {
+        [] => std::ptr::null_mut(),
+        _ => buffer.as_mut_ptr(),
+    }
+}
+
+// SAFETY, of all calls below: every pointer goes with the length of its slice.
+impl Calls for Archive {
+    fn pad(&self, chroma: bool, [pic_w, pic_h]: [u32; 2], plane: &mut [u16]) -> u32 {
+        unsafe { evc_pad(chroma, pic_w, pic_h, pointer_mut(plane), plane.len()) }
+    }
+
+    fn get_avail_inter(&self, b: &Block, words: &[u32]) -> (u32, u16) {
+        let r = unsafe { evc_get_avail_inter(block(b), pointer(words), words.len()) };
+        (r.code, r.avail)
+    }
+
+    fn get_motion(
+        &self,
+        b: &Block,
+        lidx: u32,
+        avail: u16,
+        map: &[i16],
+        col: Collocated,
+        cand: &mut EvcCandidates,
+    ) -> u32 {
+        let (map_mv, len) = (pointer(map), map.len());
+        let (col_mv, col_len) = (pointer(col.map), col.map.len());
+        let has_col = col.is_present;
+        unsafe {
+            evc_get_motion(
+                block(b),
+                lidx,
+                avail,
+                map_mv,
+                len,
+                has_col,
+                col_mv,
+                col_len,
+                cand,
+            )
+        }
+    }
+
+    fn get_mv_dir(&self, b: &Block, p: Pocs, col: Collocated) -> (u32, [Mv; 2]) {
+        let (col_mv, col_len) = (pointer(col.map), col.map.len());
+        let has_col = col.is_present;
+        let r = unsafe {
+            evc_get_mv_dir(
+                block(b),
+                p.poc,
+                p.poc0,
+                p.poc1,
+                p.list_poc0,
+                has_col,
+                col_mv,
+                col_len,
+            )
+        };
+        (r.code, [pair(r.mv0), pair(r.mv1)])
+    }
+
+    fn mv_clip(&self, b: &Block, mv: Mv) -> (u32, Mv) {
+        let r = unsafe { evc_mv_clip(block(b), vector(mv)) };
+        (r.code, pair(r.mv))
+    }
+
+    fn mc_plane(&self, c: &OnePlane, plane: &[u16], pred: &mut [u16]) -> u32 {
+        let ([pic_w, pic_h], [w, h]) = (c.pic, c.side);
+        unsafe {
+            evc_mc_plane(
+                c.chroma,
+                pic_w,
+                pic_h,
+                vector(c.ori_mv),
+                vector(c.gmv),
+                w,
+                h,
+                pointer(plane),
+                plane.len(),
+                pointer_mut(pred),
+                pred.len(),
+            )
+        }
+    }
+
+    fn mc2(&self, b: &Block, lists: &[List; 2], pred0: &mut [u16], pred1: &mut [u16]) -> u32 {
+        let [list0, list1] = lists.each_ref().map(|l| EvcList {
+            used: l.used,
+            mv: vector(l.mv),
+            poc: l.poc,
+        });
+        let [[y0, u0, v0], [y1, u1, v1]] = lists.each_ref().map(|l| l.planes);
+        unsafe {
+            evc_mc2(
+                block(b),
+                list0,
+                pointer(y0),
+                y0.len(),
+                pointer(u0),
+                u0.len(),
+                pointer(v0),
+                v0.len(),
+                list1,
+                pointer(y1),
+                y1.len(),
+                pointer(u1),
+                u1.len(),
+                pointer(v1),
+                v1.len(),
+                pointer_mut(pred0),
+                pred0.len(),
+                pointer_mut(pred1),
+                pred1.len(),
+            )
+        }
+    }
+}

@@ -1,0 +1,312 @@
+//! The comparison notices faults and makes their cases small: the archive's calls, each time with one fault.
+
+use crate::archive::{Archive, Calls, EvcCandidates};
+use crate::cases::block::Blocks;
+use crate::cases::clipping::Clipping;
+use crate::cases::demand3::Demand3;
+use crate::cases::one_plane::Planes;
+use crate::cases::padding::Padding;
+use crate::cases::units::{Directs, Flags, Motions};
+use crate::cases::Case;
+use crate::run::Run;
+use crate::sys::{End, ALARM};
+use oracle::model::{self, Block, Collocated, List, Mv, OnePlane, Pocs, PRED_LEN};
+
+#[derive(Clone, Copy, PartialEq)]
+enum Fault {
+    NoFault,
+    /// The last sample of a plane of the picture changes.
+    PadsWrong,
+    /// The first spare sample of a plane changes.
+    PadsTooFar,
+    /// Reads the word behind the lent ones.
+    ReadsBehind,
+    /// Reads the word before the lent ones.
+    ReadsBefore,
+    /// Takes a neighbour outside for done.
+    Forgets7,
+    /// 5 before 4.
+    Checks5First,
+    /// The second vector rounds down.
+    RoundsDown,
+    /// The sums of clipping in sixteen bits.
+    Wraps,
+    /// A vector besides a refusal.
+    ClipsRefused,
+    /// Writes, and then refuses.
+    WritesFirst,
+    /// Puts back a sample of the plane that was lent to be read.
+    WritesPlane,
+    /// Puts back the sample behind the lent block.
+    WritesBehind,
+    /// One sample of a wide block from two lists.
+    OneSample,
+    /// The second block is used with one list too.
+    WritesSecond,
+    /// Asks for the planes of a list not in use.
+    NeedsBoth,
+    /// The average rounds down.
+    AveragesDown,
+    /// A vector to the left is one longer in the last column of blocks.
+    LeansLeft,
+    /// Never ends.
+    Loops,
+}
+
+use Fault::*;
+
+struct Faulty(Fault);
+
+impl Calls for Faulty {
+    fn pad(&self, chroma: bool, pic: [u32; 2], plane: &mut [u16]) -> u32 {
+        let code = Archive.pad(chroma, pic, plane);
+        if code == 0 {
+            let c = OnePlane::over(chroma, pic);
+            match self.0 {
+                PadsWrong if pic[0] > 4 => plane[c.plane_len() - 1] ^= 1,
+                PadsTooFar if plane.len() > c.plane_len() => plane[c.plane_len()] ^= 1,
+                _ => (),
+            }
+        }
+        code
+    }
+
+    fn get_avail_inter(&self, b: &Block, words: &[u32]) -> (u32, u16) {
+        // SAFETY: none, that is the fault.
+        unsafe {
+            match self.0 {
+                ReadsBehind => std::ptr::read_volatile(words.as_ptr().add(words.len())),
+                ReadsBefore => std::ptr::read_volatile(words.as_ptr().sub(1)),
+                _ => 0,
+            }
+        };
+        Archive.get_avail_inter(b, words)
+    }
+
+    fn get_motion(
+        &self,
+        b: &Block,
+        lidx: u32,
+        avail: u16,
+        map: &[i16],
+        col: Collocated,
+        cand: &mut EvcCandidates,
+    ) -> u32 {
+        match Archive.get_motion(b, lidx, avail, map, col, cand) {
+            7 if self.0 == Forgets7 => 0,
+            code => code,
+        }
+    }
+
+    fn get_mv_dir(&self, b: &Block, pocs: Pocs, col: Collocated) -> (u32, [Mv; 2]) {
+        let (code, mut mv) = Archive.get_mv_dir(b, pocs, col);
+        match self.0 {
+            Checks5First if code == 4 && pocs.poc > 32767 => return (5, mv),
+            RoundsDown if code == 0 && mv[1][0] < 0 => mv[1][0] -= 1,
+            _ => (),
+        }
+        (code, mv)
+    }
+
+    fn mv_clip(&self, b: &Block, mv: Mv) -> (u32, Mv) {
+        let (code, clipped) = Archive.mv_clip(b, mv);
+        match self.0 {
+            Wraps if code == 0 && !b.in_domain(mv) => (0, mv),
+            ClipsRefused if code == 2 => (2, mv),
+            _ => (code, clipped),
+        }
+    }
+
+    fn mc_plane(&self, c: &OnePlane, plane: &[u16], pred: &mut [u16]) -> u32 {
+        let code = Archive.mc_plane(c, plane, pred);
+        match self.0 {
+            WritesFirst if code == 6 => pred[0] ^= 1,
+            // SAFETY: none, that is the fault.
+            WritesPlane if code == 0 => unsafe {
+                let first = plane.as_ptr() as *mut u16;
+                std::ptr::write_volatile(first, *first);
+            },
+            WritesBehind if code == 0 => unsafe {
+                let behind = pred.as_mut_ptr().add(pred.len());
+                std::ptr::write_volatile(behind, *behind);
+            },
+            _ => (),
+        }
+        code
+    }
+
+    fn mc2(&self, b: &Block, lists: &[List; 2], pred0: &mut [u16], pred1: &mut [u16]) -> u32 {
+        let mut lists = *lists;
+        let both = lists[0].used && lists[1].used;
+        let is_last = b.place[0].wrapping_add(b.side[0]) == b.pic[0];
+        match self.0 {
+            NeedsBoth if lists.iter().any(|list| list.planes[2].is_empty()) => {
+                let code = Archive.mc2(b, &lists, pred0, pred1);
+                return if code == 0 { 4 } else { code };
+            }
+            LeansLeft if is_last => {
+                for list in &mut lists {
+                    list.mv[0] = list.mv[0].saturating_sub(i16::from(list.mv[0] < 0));
+                }
+            }
+            Loops if both => loop {
+                std::hint::spin_loop();
+            },
+            _ => (),
+        }
+        let code = Archive.mc2(b, &lists, pred0, pred1);
+        if code == 0 {
+            let last = (b.side[0] * b.side[1]) as usize - 1;
+            match self.0 {
+                OneSample if both && b.side[0] == 16 => pred0[last] ^= 1,
+                WritesSecond if !both => pred1[PRED_LEN - 1] ^= 1,
+                AveragesDown if model::is_bi(b, &lists) => {
+                    let [first, second] = [0, 1].map(|k| {
+                        let mut one = lists;
+                        one[1 - k].used = false;
+                        let mut pred = [vec![0; PRED_LEN], vec![0; PRED_LEN]];
+                        let [block, rest] = &mut pred;
+                        Archive.mc2(b, &one, block, rest);
+                        pred[0][0]
+                    });
+                    pred0[0] = (first + second) / 2;
+                }
+                _ => (),
+            }
+        }
+        code
+    }
+}
+
+const BATCHES: u64 = 40;
+
+/// The fault is noticed with this end, and the small case says so.
+fn assert_noticed<C: Case>(fault: Fault, end: End, says: &[&str]) {
+    let calls = &Faulty(fault);
+    let run = Run {
+        calls,
+        seed: 3,
+        time_limit: 120,
+    };
+    let (_, failure) = run.all::<C>(|batches| batches == BATCHES);
+    let failure = failure.expect("it is noticed");
+    assert_eq!(failure.end, end);
+    assert_eq!(run.one(&failure.smaller, |_| ()), end);
+    let smaller = format!("{:?}", failure.smaller);
+    for part in says {
+        assert!(smaller.contains(part), "{part}: {smaller}");
+    }
+}
+
+const DIFFERS: End = End::Code(1);
+const CRASHES: End = End::Signal(11);
+
+#[test]
+fn no_fault() {
+    fn assert_none<C: Case>() {
+        let run = Run {
+            calls: &Faulty(NoFault),
+            seed: 3,
+            time_limit: 120,
+        };
+        let (counts, failure) = run.all::<C>(|batches| batches == BATCHES / 4);
+        assert!(failure.is_none(), "{}", C::NAME);
+        assert!(counts.iter().flatten().sum::<u64>() > 100, "{}", C::NAME);
+    }
+    assert_none::<Padding>();
+    assert_none::<Flags>();
+    assert_none::<Motions>();
+    assert_none::<Directs>();
+    assert_none::<Clipping>();
+    assert_none::<Planes>();
+    assert_none::<Blocks>();
+    assert_none::<Demand3>();
+}
+
+/// The lines of a run that fails: `cargo test -p compare told -- --nocapture`.
+#[test]
+fn told() {
+    let options = crate::Options {
+        seconds: 1.0,
+        seed: 3,
+        call: None,
+        case: None,
+    };
+    assert!(!crate::compare::<Blocks>(&Faulty(OneSample), &options, 1.0));
+    assert!(!crate::compare::<Flags>(
+        &Faulty(ReadsBehind),
+        &options,
+        1.0
+    ));
+    assert!(crate::compare::<Flags>(&Faulty(NoFault), &options, 1.0));
+}
+
+#[test]
+fn of_padding() {
+    assert_noticed::<Padding>(PadsWrong, DIFFERS, &["pic: [8, 4], plane", "spare: 0"]);
+    assert_noticed::<Padding>(PadsTooFar, DIFFERS, &["pic: [4, 4], plane", "spare: 1"]);
+}
+
+#[test]
+fn of_flags() {
+    let small = ["pic: [0, 0]", "place: [0, 0]", "side: [0, 0]"];
+    assert_noticed::<Flags>(ReadsBehind, CRASHES, &small);
+    assert_noticed::<Flags>(ReadsBefore, CRASHES, &small);
+}
+
+#[test]
+fn of_candidates() {
+    let small = ["pic: [4, 4], place: [0, 0]", "lidx: 0", "has_col: false"];
+    assert_noticed::<Motions>(Forgets7, DIFFERS, &small);
+}
+
+#[test]
+fn of_direct_vectors() {
+    let small = ["poc: 32768, poc0: 0, poc1: 0, list_poc0: 0"];
+    assert_noticed::<Directs>(Checks5First, DIFFERS, &small);
+    let small = ["pic: [4, 4], place: [0, 0]"];
+    assert_noticed::<Directs>(RoundsDown, DIFFERS, &small);
+}
+
+#[test]
+fn of_clipping() {
+    let small = ["pic: [4, 4], place: [0, 0]", "mv: [32752, 0]"];
+    assert_noticed::<Clipping>(Wraps, DIFFERS, &small);
+    let small = ["pic: [4, 4], place: [0, 0], side: [0, 0]"];
+    assert_noticed::<Clipping>(ClipsRefused, DIFFERS, &small);
+}
+
+#[test]
+fn of_one_plane() {
+    let small = ["ori_mv: [0, 0]", "pic: [4, 4]"];
+    assert_noticed::<Planes>(WritesFirst, DIFFERS, &small);
+    assert_noticed::<Planes>(WritesPlane, CRASHES, &small);
+    assert_noticed::<Planes>(WritesBehind, CRASHES, &small);
+}
+
+#[test]
+fn of_blocks() {
+    let small = ["side: [16, 4]", "place: [0, 0]", "mv: [[0, 0], [0, 0]]"];
+    assert_noticed::<Blocks>(OneSample, DIFFERS, &small);
+    let small = ["pic: [4, 4]", "mv: [[0, 0], [0, 0]]"];
+    assert_noticed::<Blocks>(WritesSecond, DIFFERS, &small);
+    assert_noticed::<Blocks>(NeedsBoth, DIFFERS, &small);
+}
+
+#[test]
+fn of_demand_3() {
+    let small = ["pic: [4, 4]", "used: [true, true]"];
+    assert_noticed::<Demand3>(AveragesDown, DIFFERS, &small);
+    assert_noticed::<Demand3>(LeansLeft, DIFFERS, &["used: [false, true]"]);
+}
+
+#[test]
+fn without_end() {
+    let run = Run {
+        calls: &Faulty(Loops),
+        seed: 3,
+        time_limit: 10,
+    };
+    let (_, failure) = run.all::<Blocks>(|batches| batches == BATCHES);
+    assert_eq!(failure.expect("it is noticed").end, ALARM);
+}
