@@ -68,10 +68,6 @@ component-before b c f d i h = withBlock-before 0 d (offsetOf c) (widthOf b c) (
 place-high : (b : EvcBlock) → Sides b → (c : Component) (y x : ℕ) → y < heightOf b c → x < widthOf b c → offsetOf c + y * widthOf b c + x < endOf c
 place-high b z c y x ly lx = omega (arith, component-room b z c, row-fits (widthOf b c) ly)
 
-pub samples-length : (b : EvcBlock) (f : Component → ℕ → ℕ → ℕ) (d : List ℕ) → length (withSamples b f d) ≡ length d
-unfolding withSamples
-samples-length b f d = component-length b cr (f cr) _ ∙ component-length b cb (f cb) _ ∙ component-length b luma (f luma) d
-
 pub samples-ext : (b : EvcBlock) (f g : Component → ℕ → ℕ → ℕ) (d : List ℕ) → ((c : Component) (y x : ℕ) → y < heightOf b c → x < widthOf b c → f c y x ≡ g c y x) → withSamples b f d ≡ withSamples b g d
 unfolding withSamples
 samples-ext b f g d h =

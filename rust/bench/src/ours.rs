@@ -1,74 +1,8 @@
 //! The calls of include/evc_inter.h, as the archive has them, on the oracle's types.
 
+use evc_inter::ffi::*;
+use evc_inter::{EvcBlock, EvcCandidates, EvcList, EvcMv};
 use oracle::model::{Block, Candidates, Mv, OnePlane, Pocs};
-
-#[repr(C)]
-#[derive(Clone, Copy)]
-struct EvcMv {
-    x: i16,
-    y: i16,
-}
-
-#[repr(C)]
-#[derive(Clone, Copy)]
-struct EvcBlock {
-    pic_w: u32,
-    pic_h: u32,
-    x: u32,
-    y: u32,
-    w: u32,
-    h: u32,
-}
-
-#[repr(C)]
-#[derive(Clone, Copy)]
-struct EvcList {
-    used: bool,
-    mv: EvcMv,
-    poc: u32,
-}
-
-#[repr(C)]
-struct EvcAvail {
-    code: u32,
-    avail: u16,
-}
-
-#[repr(C)]
-struct EvcClipped {
-    code: u32,
-    mv: EvcMv,
-}
-
-#[repr(C)]
-struct EvcDirect {
-    code: u32,
-    mv0: EvcMv,
-    mv1: EvcMv,
-}
-
-#[repr(C)]
-struct EvcCandidates {
-    mv: [EvcMv; 4],
-    refi: [i8; 4],
-}
-
-#[rustfmt::skip]
-extern "C" {
-    fn evc_pad(chroma: bool, pic_w: u32, pic_h: u32, plane: *mut u16, plane_len: usize) -> u32;
-    fn evc_get_avail_inter(block: EvcBlock, map_scu: *const u32, map_scu_len: usize) -> EvcAvail;
-    fn evc_get_motion(block: EvcBlock, lidx: u32, avail: u16, map_mv: *const i16, map_mv_len: usize,
-        has_col: bool, col_mv: *const i16, col_mv_len: usize, cand: *mut EvcCandidates) -> u32;
-    fn evc_get_mv_dir(block: EvcBlock, poc: u32, poc0: u32, poc1: u32, list_poc0: u32,
-        has_col: bool, col_mv: *const i16, col_mv_len: usize) -> EvcDirect;
-    fn evc_mv_clip(block: EvcBlock, mv: EvcMv) -> EvcClipped;
-    fn evc_mc_plane(chroma: bool, pic_w: u32, pic_h: u32, ori_mv: EvcMv, gmv: EvcMv, w: u32, h: u32,
-        plane: *const u16, plane_len: usize, pred: *mut u16, pred_len: usize) -> u32;
-    fn evc_mc2(block: EvcBlock,
-        list0: EvcList, y0: *const u16, y0_len: usize, u0: *const u16, u0_len: usize, v0: *const u16, v0_len: usize,
-        list1: EvcList, y1: *const u16, y1_len: usize, u1: *const u16, u1_len: usize, v1: *const u16, v1_len: usize,
-        pred0: *mut u16, pred0_len: usize, pred1: *mut u16, pred1_len: usize) -> u32;
-}
 
 fn vector([x, y]: Mv) -> EvcMv {
     EvcMv { x, y }
@@ -119,16 +53,22 @@ pub struct Record(EvcCandidates);
 
 impl Record {
     pub fn new(c: &Candidates) -> Self {
+        let [left, up, up_right, collocated] = c.mv.map(vector);
+        let refi = c.refi;
         Record(EvcCandidates {
-            mv: c.mv.map(vector),
-            refi: c.refi,
+            left,
+            up,
+            up_right,
+            collocated,
+            refi,
         })
     }
 
     pub fn candidates(&self) -> Candidates {
+        let c = &self.0;
         Candidates {
-            mv: [0, 1, 2, 3].map(|k| [self.0.mv[k].x, self.0.mv[k].y]),
-            refi: self.0.refi,
+            mv: [c.left, c.up, c.up_right, c.collocated].map(|mv| [mv.x, mv.y]),
+            refi: c.refi,
         }
     }
 }

@@ -30,7 +30,8 @@
 
 mod calls;
 mod cu;
-mod ffi;
+#[doc(hidden)] // for the benchmark, which converts nothing
+pub mod ffi;
 mod plane;
 mod refusal;
 mod types;
