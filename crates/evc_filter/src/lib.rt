@@ -488,14 +488,14 @@ pub fn one_block(
     ensures { λ _. ⌜ now (d .exit) ≡ withBlock (now (d .entry)) to width n h (λ (y x : ℕ). oneAt (now (s .entry)) (at + y * stride + x) o t) ⌝ }
 {
     if n == 4 {
-        one_quads(s, at, stride, h, o, t, d, to, width);
+        one_quads(&*s, at, stride, h, o, t, d, to, width);
         return;
     }
     if n == 2 {
-        one_pairs(s, at, stride, h, o, t, d, to, width);
+        one_pairs(&*s, at, stride, h, o, t, d, to, width);
         return;
     }
-    one_octs(s, at, stride, h, o, t, d, to, width);
+    one_octs(&*s, at, stride, h, o, t, d, to, width);
 }
 
 fn split_oct(s: &[u16], at: usize, o: Offsets, t: Taps, d: &mut [u16], to: usize)

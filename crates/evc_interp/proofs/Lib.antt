@@ -1,3 +1,4 @@
+pub mod Codes
 pub mod Paths
 pub mod Places
 pub mod Windows

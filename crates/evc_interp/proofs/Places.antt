@@ -1,19 +1,20 @@
 -- Phases and places in machine numbers. Assumes nothing.
 use mathlib.Core.Bool.{Bool, true, false}
-use mathlib.Core.Path.{_≡_, sym, ap, ap₂, subst, _∙_}
-use Prim.Native.Nat.{ℕ, _+_, _<_, _≤_}
+use mathlib.Core.Path.{_≡_, refl, sym, ap, ap₂, subst, _∙_}
+use Prim.Native.Nat.{ℕ, _+_, _-_, _%_, _<_, _≤_}
 use native.Mathlib.Omega.{arith}
 use lib.Dec.{T}
-use lib.IntN.{ℤ, pos, natAbs, _-ℤ_, _*ℤ_}
+use lib.Bits.{bitAnd, and-mask}
+use lib.IntN.{ℤ, pos, negsuc, natAbs, _-ℤ_}
 use lib.Signed.{nonNeg, shrZ}
 use mir.Syntax.{w16, w32, w64}
 use mir.Val.{SFits, Fits, toZ, ofZ}
 use mir.Facts.{toZ-ofZ, sfits-widen}
 use Rattle.evc_int.specs.Whole.{_⁺, _⁻, _modulo_}
-use Rattle.evc_int.proofs.Whole.{Is, of, nat, is--, is-eq}
-use Rattle.evc_int.proofs.Expressions.{ !, _⊕_, _⊖_, solve, fact, neg}
-use Rattle.evc_int.proofs.Division.{split, modulo-lt}
-use Rattle.evc_int.proofs.Machine.{is-rd, fit, fits-shr, to-unsigned, rng, widen}
+use Rattle.evc_int.proofs.Whole.{Is, of, nat, is--, is-by, same}
+use Rattle.evc_int.proofs.Expressions.{ !, _⊕_, _⊖_, solve, neg}
+use Rattle.evc_int.proofs.Division.{modulo-lt}
+use Rattle.evc_int.proofs.Machine.{is-bits, fit, fits-shr, to-unsigned, rng, widen}
 use Rattle.evc_filter.specs.Filter.{lead, phases}
 use Rattle.evc_interp.specs.Prediction.{placeOf, startOf}
 use Rattle.evc_plane.specs.declared.PlaneType.{PlaneType}
@@ -26,40 +27,48 @@ wide z f = toZ-ofZ (widen w16 w32 z f tt) ∙ toZ-ofZ f
 pub shifted : (z : ℤ) (m : ℕ) → SFits w16 z → toZ w32 (ofZ w32 (shrZ (toZ w32 (ofZ w32 (toZ w16 (ofZ w16 z)))) m)) ≡ shrZ z m
 shifted z m f = ap (λ (x : ℤ). toZ w32 (ofZ w32 (shrZ x m))) (wide z f) ∙ toZ-ofZ (fits-shr m (sfits-widen tt f))
 
--- z less m times its place, as the code has it: the phase
-module _ (z p q : ℤ) (m : ℕ) (low : 0 < m) (high : m ≤ 8) (f : SFits w16 z) (g : SFits w32 p) (h : SFits w32 q) (ep : p ≡ pos m) (eq : q ≡ shrZ z m) where
-  product : ℤ
-  product = toZ w32 (ofZ w32 p) *ℤ toZ w32 (ofZ w32 q)
+-- ---- the phase: the low bits
 
-  product-is : product ≡ pos m *ℤ shrZ z m
-  unfolding product
-  product-is = ap₂ (λ (x y : ℤ). x *ℤ y) (toZ-ofZ g ∙ ep) (toZ-ofZ h ∙ eq)
+module _ (k : PlaneType) where
+  mask : (n : ℕ) → bitAnd n (phases k - 1) ≡ n % phases k
+  mask = go k
+    where
+      go : (k : PlaneType) (n : ℕ) → bitAnd n (phases k - 1) ≡ n % phases k
+      go Y n = and-mask n 2
+      go UV n = and-mask n 3
 
-  pub product-fits : SFits w32 (toZ w32 (ofZ w32 p) *ℤ toZ w32 (ofZ w32 q))
-  unfolding product
-  product-fits =
-      let x = pos m *ℤ shrZ z m in
-      let r = z modulo m in
-      subst (SFits w32) (sym product-is) (fit (of x) (let a = rng f in let b = modulo-lt m z low in omega (arith, fact (! z) (! x ⊕ ! (pos r)) (split m z low))))
+  rest : (z : ℤ) → SFits w32 z → ofZ w32 z % phases k ≡ z modulo phases k
+  rest = go k
+    where
+      go : (k : PlaneType) (z : ℤ) → SFits w32 z → ofZ w32 z % phases k ≡ z modulo phases k
+      go Y (pos n) f = refl
+      go Y (negsuc n) f = let h : n < 2147483648 = f .sfits in omega arith
+      go UV (pos n) f = refl
+      go UV (negsuc n) f = let h : n < 2147483648 = f .sfits in omega arith
 
-  rest-is : toZ w32 (ofZ w32 (toZ w16 (ofZ w16 z))) -ℤ toZ w32 (ofZ w32 (toZ w32 (ofZ w32 p) *ℤ toZ w32 (ofZ w32 q))) ≡ pos (z modulo m)
-  unfolding product
-  rest-is =
-      let x = pos m *ℤ shrZ z m in
-      let r = z modulo m in
-      ap₂ (λ (a b : ℤ). a -ℤ b) (wide z f) (toZ-ofZ product-fits ∙ product-is) ∙ solve (! z ⊖ ! x) (! (pos r)) (omega (arith, fact (! z) (! x ⊕ ! (pos r)) (split m z low)))
+  small : (z : ℤ) → z modulo phases k < 8
+  small = go k
+    where
+      go : (k : PlaneType) (z : ℤ) → z modulo phases k < 8
+      go Y z = omega (arith, modulo-lt 4 z (omega arith))
+      go UV z = modulo-lt 8 z (omega arith)
 
-  pub rest-fits : SFits w32 (toZ w32 (ofZ w32 (toZ w16 (ofZ w16 z))) -ℤ toZ w32 (ofZ w32 (toZ w32 (ofZ w32 p) *ℤ toZ w32 (ofZ w32 q))))
-  rest-fits = subst (SFits w32) (sym rest-is) (fit (nat (z modulo m)) (let b = modulo-lt m z low in omega arith))
+  module _ (z : ℤ) (f : SFits w16 z) where
+    bits : bitAnd (ofZ w32 (toZ w16 (ofZ w16 z))) (phases k - 1) ≡ z modulo phases k
+    bits = mask _ ∙ ap (λ (x : ℤ). ofZ w32 x % phases k) (toZ-ofZ f) ∙ rest z (sfits-widen tt f)
 
-  abbrev rest : ℤ
-  rest = toZ w32 (ofZ w32 (toZ w32 (ofZ w32 (toZ w16 (ofZ w16 z))) -ℤ toZ w32 (ofZ w32 (toZ w32 (ofZ w32 p) *ℤ toZ w32 (ofZ w32 q)))))
+    low-bits : Is (toZ w32 (bitAnd (ofZ w32 (toZ w16 (ofZ w16 z))) (phases k - 1))) (z modulo phases k) 0
+    low-bits =
+        let b = small z in
+        let n = bitAnd (ofZ w32 (toZ w16 (ofZ w16 z))) (phases k - 1) in
+        let l : n < 2147483648 = omega (arith, bits) in
+        is-by (is-bits w32 n l) (omega (arith, bits))
 
-  pub rest-unsigned : T (nonNeg rest) × Fits w64 (natAbs rest)
-  rest-unsigned = to-unsigned (is-rd rest-fits (is-eq rest-is (nat (z modulo m)))) (let b = modulo-lt m z low in omega arith)
+    pub phase-unsigned : T (nonNeg (toZ w32 (bitAnd (ofZ w32 (toZ w16 (ofZ w16 z))) (phases k - 1)))) × Fits w64 (natAbs (toZ w32 (bitAnd (ofZ w32 (toZ w16 (ofZ w16 z))) (phases k - 1))))
+    phase-unsigned = let b = small z in to-unsigned low-bits (omega arith)
 
-  pub phase-is : natAbs rest ≡ z modulo m
-  phase-is = ap natAbs (toZ-ofZ rest-fits ∙ rest-is)
+    pub phase-is : natAbs (toZ w32 (bitAnd (ofZ w32 (toZ w16 (ofZ w16 z))) (phases k - 1))) ≡ z modulo phases k
+    phase-is = ap natAbs (same low-bits (nat (z modulo phases k)) (omega arith))
 
 -- ---- the start of a path
 

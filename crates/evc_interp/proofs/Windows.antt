@@ -32,7 +32,8 @@ use Rattle.evc_plane.proofs.Sizes.{sizes}
 use Rattle.evc_filter.specs.Filter.{phases, lead, reach, interpolated, interpolatedTwice}
 use Rattle.evc_filter.specs.Code.{isRowWidth}
 use Rattle.evc_interp.specs.Prediction.{phaseOf, placeOf, isFiltered, startOf, windowOf, sampleBy, predicted, isSide, windowExceeds, mcPlaneCode}
-use Rattle.evc_interp.specs.Code.{Within}
+use Rattle.evc_interp.specs.Code.{Within, positionOf, Readable, sampleFrom}
+use Rattle.evc_interp.specs.declared.Position.{Position}
 
 -- ---- a block's side
 
@@ -41,6 +42,7 @@ pub record Side (k : PlaneType) (n : ℕ) : Type 0 where
   pub high : n ≤ sideOf k 64
   pub small : n ≤ 64
   pub room : n + reach k ≤ padOf k
+  pub wide : 4 ≤ n + reach k
   pub total : n + reach k ≤ 80
   pub width : isRowWidth n ≡ true
 
@@ -63,11 +65,11 @@ pub side : (k : PlaneType) (n : ℕ) → isSide k n ≡ true → Side k n
 side Y n e = one-of (Side Y) n 4 8 16 32 64 e (of 4 (omega arith) (omega arith) refl) (of 8 (omega arith) (omega arith) refl) (of 16 (omega arith) (omega arith) refl) (of 32 (omega arith) (omega arith) refl) (of 64 (omega arith) (omega arith) refl)
   where
     of : (n : ℕ) → 0 < n → n ≤ 64 → isRowWidth n ≡ true → Side Y n
-    of n b l e = record { some = b; high = l; small = l; room = omega arith; total = omega arith; width = e }
+    of n b l e = record { some = b; high = l; small = l; room = omega arith; wide = omega arith; total = omega arith; width = e }
 side UV n e = one-of (Side UV) n 2 4 8 16 32 e (of 2 (omega arith) (omega arith) refl) (of 4 (omega arith) (omega arith) refl) (of 8 (omega arith) (omega arith) refl) (of 16 (omega arith) (omega arith) refl) (of 32 (omega arith) (omega arith) refl)
   where
     of : (n : ℕ) → 0 < n → n ≤ 32 → isRowWidth n ≡ true → Side UV n
-    of n b l e = record { some = b; high = l; small = omega arith; room = omega arith; total = omega arith; width = e }
+    of n b l e = record { some = b; high = l; small = omega arith; room = omega arith; wide = omega arith; total = omega arith; width = e }
 
 -- ---- a start that is `m` less instead of `l` less, in one direction
 
@@ -179,14 +181,37 @@ pub phase-small : (k : PlaneType) (z : ℤ) (n : ℕ) → n ≡ phaseOf k z → 
 unfolding phaseOf
 phase-small k z n e = subst (λ (n : ℕ). n < phases k) (sym e) (modulo-lt (phases k) z (some-phase k))
 
--- ---- what a path gives, by the bits that it was chosen by
+-- ---- an accepted call, from the position that the code has
 
-pub path-gives : (k : PlaneType) (W H : ℕ) (ori gmv : EvcMv) (w h : ℕ) (s d : List ℕ) (across down : Bool) (at S dx dy : ℕ)
-    → across ≡ isFiltered k (ori .x) → down ≡ isFiltered k (ori .y) → at ≡ windowOf k W H across down gmv → S ≡ strideOf k W → dx ≡ phaseOf k (gmv .x) → dy ≡ phaseOf k (gmv .y)
-    → withBlock d 0 w w h (λ (y x : ℕ). sampleBy k across down dx dy s (at + y * S + x) S) ≡ withBlock d 0 w w h (predicted k W H ori gmv s)
-unfolding predicted
-path-gives k W H ori gmv w h s d across down at S dx dy ea ed e f ex ey =
-    withBlock-ext d 0 w w h _ _ (λ y x ly lx. rw (e, f, ex, ey) (ap₂ (λ (a b : Bool). sampleBy k a b (phaseOf k (gmv .x)) (phaseOf k (gmv .y)) s (windowOf k W H a b gmv + y * strideOf k W + x) (strideOf k W)) ea ed))
+module _ (k : PlaneType) (W H : ℕ) (ori gmv : EvcMv) (w h : ℕ) (s : List ℕ) (p : Position) (e : p ≡ positionOf k W H ori gmv) where
+  pub readable : (d : List ℕ) → Accepted k W H gmv w h s d → Readable k p w h s
+  unfolding positionOf
+  readable d g = subst (λ (q : Position). Readable k q w h s) (sym e) given
+    where
+      across : Bool
+      across = isFiltered k (ori .x)
+
+      down : Bool
+      down = isFiltered k (ori .y)
+
+      given : Readable k (positionOf k W H ori gmv) w h s
+      given =
+          let a = path-asks k W H gmv w h s d g across down _ _ refl refl (w + cond across (reach k) 0) (h + cond down (reach k) 0) (omega arith) (omega arith) in
+          record {
+            inside = a .0;
+            within = a .1;
+            width = g .w-side .width;
+            narrow = g .w-side .small;
+            some = g .h-side .some;
+            high = g .h-side .high;
+            dx-phase = phase-small k (gmv .x) _ refl;
+            dy-phase = phase-small k (gmv .y) _ refl;
+            stride-small = stride-small k W H _ refl (g .picture);
+          }
+
+  pub predicts : (d : List ℕ) (o : ℕ) → withBlock d o w w h (sampleFrom k p s) ≡ withBlock d o w w h (predicted k W H ori gmv s)
+  unfolding predicted positionOf
+  predicts d o = ap (λ (q : Position). withBlock d o w w h (sampleFrom k q s)) e
 
 -- ---- one direction is one of the paths
 
@@ -204,11 +229,13 @@ pub stride-is : (k : PlaneType) (W H : ℕ) (c : PlaneConfig) → c ≡ configOf
 unfolding configOf
 stride-is k W H c e = ap (λ (c : PlaneConfig). c .stride) e
 
-pub examined-fits : (k : PlaneType) (W H : ℕ) (gmv : EvcMv) (w h : ℕ) (s : List ℕ) (at S r : ℕ) → badPicture W H ≡ false → Side k w → Side k h → planeLen k W H ≤ length s
-    → at ≡ windowOf k W H true true gmv → S ≡ strideOf k W → r ≡ reach k → at + (h + r) * S + (w + r) ≤ length s + S
+pub examined-asks : (k : PlaneType) (W H : ℕ) (gmv : EvcMv) (w h : ℕ) (s : List ℕ) (at S r : ℕ) → badPicture W H ≡ false → isSide k w ≡ true → isSide k h ≡ true → planeLen k W H ≤ length s
+    → at ≡ windowOf k W H true true gmv → S ≡ strideOf k W → r ≡ reach k → (at + (h + r) * S + (w + r) ≤ length s + S) × (4 ≤ w + r) × (0 < h + r)
 unfolding windowOf
-examined-fits k W H gmv w h s at S r good sw sh l e f g =
-    rw (e, f, g) (omega (arith, window-fits k W H good (startOf k true (gmv .x)) (startOf k true (gmv .y)) (w + reach k) (h + reach k) (sw .room) (sh .room)))
+examined-asks k W H gmv w h s at S r good sw sh l e f g =
+    let a = side k w sw in
+    let b = side k h sh in
+    rw (e, f, g) (omega (arith, window-fits k W H good (startOf k true (gmv .x)) (startOf k true (gmv .y)) (w + reach k) (h + reach k) (a .room) (b .room)), a .wide, omega (arith, b .some))
 
 pub examined-is : (k : PlaneType) (W H : ℕ) (gmv : EvcMv) (w h : ℕ) (s : List ℕ) (at S r : ℕ) → at ≡ windowOf k W H true true gmv → S ≡ strideOf k W → r ≡ reach k → exceeds s at S (w + r) (h + r) ≡ windowExceeds k W H gmv w h s
 unfolding windowExceeds

@@ -1,5 +1,6 @@
 ghost use mathlib.Core.Path.{_≡_};
-ghost use mathlib.Core.Bool.{true, false, cond};
+ghost use mathlib.Core.Bool.{true, false, cond, _||_};
+ghost use lib.Dec.{ltb};
 ghost use Prim.Native.Nat.{ℕ, _+_, _*_, _<_, _≤_};
 ghost use lib.IntN.{pos};
 ghost use lib.ListN.{length, getD};
@@ -8,8 +9,8 @@ ghost use Rattle.evc_def.specs.Blocks.{badPicture};
 ghost use Rattle.evc_plane.specs.Planes.{sideOf, planeLen};
 ghost use Rattle.evc_filter.specs.Filter.{phases, lead, reach, interpolated, interpolatedTwice};
 ghost use Rattle.evc_filter.specs.Code.{isRowWidth};
-ghost use Rattle.evc_interp.specs.Prediction.{phaseOf, placeOf, isFiltered, startOf, windowOf, predicted, isSide, windowExceeds, mcPlaneCode, mcPlaneAfter};
-ghost use Rattle.evc_interp.specs.Code.{Within};
+ghost use Rattle.evc_interp.specs.Prediction.{phaseOf, placeOf, isFiltered, startOf, windowOf, isSide, windowExceeds, mcPlaneCode, mcPlaneAfter};
+ghost use Rattle.evc_interp.specs.Code.{Within, positionOf, Readable, sampleFrom};
 use evc_def::EvcMv;
 use evc_def::Pel;
 use evc_plane::PlaneType;
@@ -167,7 +168,7 @@ fn columns(
 {
     let one = unit(h);
     evc_filter::quarter_block(
-        s,
+        &*s,
         at,
         stride,
         n,
@@ -259,15 +260,6 @@ fn evc_mc_nn(
 
 // ---- path, phase and place
 
-fn phase_count(t: PlaneType) -> i32
-    ensures { λ r. ⌜ r ≡ pos (phases t) ⌝ }
-{
-    match t {
-        PlaneType::Y => 4,
-        PlaneType::UV => 8,
-    }
-}
-
 fn place(t: PlaneType, z: i16) -> Pel
     ensures { λ r. ⌜ r .0 ≡ placeOf t z ⌝ }
 {
@@ -280,7 +272,10 @@ fn place(t: PlaneType, z: i16) -> Pel
 fn phase(t: PlaneType, z: i16) -> usize
     ensures { λ r. ⌜ r ≡ phaseOf t z ⌝ }
 {
-    (z as i32 - phase_count(t) * place(t, z).0) as usize
+    match t {
+        PlaneType::Y => (z as i32 & 3) as usize,
+        PlaneType::UV => (z as i32 & 7) as usize,
+    }
 }
 
 fn is_filtered(t: PlaneType, mv: i16) -> bool
@@ -318,6 +313,63 @@ fn window(t: PlaneType, pic_w: u32, pic_h: u32, across: bool, down: bool, gmv: E
     )
 }
 
+// Where a block is predicted from, and how.
+pub struct Position {
+    pub stride: usize,
+    pub at: usize,
+    pub across: bool,
+    pub down: bool,
+    pub dx: usize,
+    pub dy: usize,
+}
+
+pub fn position_of(t: PlaneType, pic_w: u32, pic_h: u32, ori_mv: EvcMv, gmv: EvcMv) -> Position
+    requires { ⌜ badPicture «pic_w» «pic_h» ≡ false ⌝ }
+    ensures { λ r. ⌜ r ≡ positionOf t «pic_w» «pic_h» «ori_mv» gmv ⌝ }
+{
+    let c = evc_plane::plane_config(t, pic_w, pic_h);
+    let across = is_filtered(t, ori_mv.x);
+    let down = is_filtered(t, ori_mv.y);
+    Position {
+        stride: c.stride,
+        at: window(t, pic_w, pic_h, across, down, gmv),
+        across,
+        down,
+        dx: phase(t, gmv.x),
+        dy: phase(t, gmv.y),
+    }
+}
+
+// The block by its path. Plain numbers, since a record would be stored and read again at each call.
+pub fn predict(
+    t: PlaneType,
+    stride: usize,
+    at: usize,
+    across: bool,
+    down: bool,
+    dx: usize,
+    dy: usize,
+    w: usize,
+    h: usize,
+    plane: &[u16],
+    pred: &mut [u16],
+)
+    requires { ⌜ Readable t (record { stride = stride; at = at; across = across; down = down; dx = dx; dy = dy }) w h (now plane) × (h * w ≤ length (now pred)) ⌝ }
+    ensures { λ _. ⌜ now (pred .exit) ≡ withBlock (now (pred .entry)) 0 w w h (sampleFrom t (record { stride = stride; at = at; across = across; down = down; dx = dx; dy = dy }) (now (plane .entry))) ⌝ }
+{
+    // One call for one direction: with two it would not be built into this function, which costs a small block a fifth of its time.
+    match across & down {
+        true => evc_mc_nn(t, &*plane, at, stride, w, h, dx, dy, pred),
+        false => match across | down {
+            true => {
+                let phase = either(across, dx, dy);
+                evc_mc_one(t, &*plane, at, stride, across, w, h, phase, pred);
+            }
+            false => evc_mc_00(&*plane, at, stride, w, h, pred),
+        },
+    }
+}
+
 // ---- the call
 
 fn is_chroma_side(n: u32) -> bool
@@ -326,15 +378,6 @@ fn is_chroma_side(n: u32) -> bool
     match n {
         2 | 4 | 8 | 16 | 32 => true,
         _ => false,
-    }
-}
-
-fn is_side(t: PlaneType, n: u32) -> bool
-    ensures { λ r. ⌜ r ≡ isSide t n ⌝ }
-{
-    match t {
-        PlaneType::Y => evc_def::is_block_side(n),
-        PlaneType::UV => is_chroma_side(n),
     }
 }
 
@@ -354,7 +397,7 @@ pub fn window_exceeds(
 {
     let c = evc_plane::plane_config(t, pic_w, pic_h);
     let more = rows_more(t);
-    evc_plane::exceeds(
+    evc_plane::window_exceeds(
         plane,
         window(t, pic_w, pic_h, true, true, gmv),
         c.stride,
@@ -363,65 +406,122 @@ pub fn window_exceeds(
     )
 }
 
-fn mc_plane_code(
+// The same of two planes with one window: cb and cr.
+pub fn windows_exceed(
     t: PlaneType,
     pic_w: u32,
     pic_h: u32,
     gmv: EvcMv,
     w: u32,
     h: u32,
-    plane: &[u16],
-    pred: &[u16],
-) -> u32
-    ensures { λ r. ⌜ r ≡ mcPlaneCode t «pic_w» «pic_h» gmv w h (now (plane .entry)) (now (pred .entry)) ⌝ }
+    u: &[u16],
+    v: &[u16],
+) -> bool
+    requires { ⌜ (badPicture «pic_w» «pic_h» ≡ false) × (isSide t w ≡ true) × (isSide t h ≡ true) ⌝ }
+    requires { ⌜ (planeLen t «pic_w» «pic_h» ≤ length (now u)) × (planeLen t «pic_w» «pic_h» ≤ length (now v)) ⌝ }
+    ensures { λ r. ⌜ r ≡ windowExceeds t «pic_w» «pic_h» gmv w h (now (u .entry)) || windowExceeds t «pic_w» «pic_h» gmv w h (now (v .entry)) ⌝ }
 {
-    if evc_def::bad_picture(pic_w, pic_h) {
-        return 1;
-    }
-    if !(is_side(t, w) & is_side(t, h)) {
-        return 2;
-    }
-    if (plane.len() < evc_plane::plane_len(t, pic_w, pic_h)) | (pred.len() < (w * h) as usize) {
-        return 4;
-    }
-    if window_exceeds(t, pic_w, pic_h, gmv, w, h, plane) {
-        return 6;
-    }
-    0
+    let c = evc_plane::plane_config(t, pic_w, pic_h);
+    let more = rows_more(t);
+    let at = window(t, pic_w, pic_h, true, true, gmv);
+    let n = w as usize + more;
+    let m = h as usize + more;
+    evc_plane::window_exceeds(u, at, c.stride, n, m)
+        | evc_plane::window_exceeds(v, at, c.stride, n, m)
 }
 
-pub fn predict(
-    t: PlaneType,
+fn is_short(t: PlaneType, pic_w: u32, pic_h: u32, w: u32, h: u32, plane: usize, pred: usize) -> bool
+    requires { ⌜ (badPicture «pic_w» «pic_h» ≡ false) × (w * h ≤ 4096) ⌝ }
+    ensures { λ r. ⌜ r ≡ ltb plane (planeLen t «pic_w» «pic_h») || ltb pred (w * h) ⌝ }
+{
+    (plane < evc_plane::plane_len(t, pic_w, pic_h)) | (pred < (w * h) as usize)
+}
+
+// Two calls, as in the Rust: the sizes of each plane are then constants.
+fn evc_mc_l(
     pic_w: u32,
     pic_h: u32,
     ori_mv: EvcMv,
     gmv: EvcMv,
-    w: usize,
-    h: usize,
+    w: u32,
+    h: u32,
     plane: &[u16],
     pred: &mut [u16],
-)
-    requires { ⌜ mcPlaneCode t «pic_w» «pic_h» gmv w h (now plane) (now pred) ≡ 0 ⌝ }
-    ensures { λ _. ⌜ now (pred .exit) ≡ withBlock (now (pred .entry)) 0 w w h (predicted t «pic_w» «pic_h» «ori_mv» gmv (now (plane .entry))) ⌝ }
+) -> u32
+    requires { ⌜ badPicture «pic_w» «pic_h» ≡ false ⌝ }
+    ensures { λ r. ⌜ r ≡ mcPlaneCode PlaneType.Y «pic_w» «pic_h» gmv w h (now (plane .entry)) (now (pred .entry)) ⌝ }
+    ensures { λ _. ⌜ now (pred .exit) ≡ mcPlaneAfter PlaneType.Y «pic_w» «pic_h» «ori_mv» gmv w h (now (plane .entry)) (now (pred .entry)) ⌝ }
 {
-    let c = evc_plane::plane_config(t, pic_w, pic_h);
-    let stride = c.stride;
-    let across = is_filtered(t, ori_mv.x);
-    let down = is_filtered(t, ori_mv.y);
-    let at = window(t, pic_w, pic_h, across, down, gmv);
-    let dx = phase(t, gmv.x);
-    let dy = phase(t, gmv.y);
-    // One call for one direction: with two it would not be built into this function, which costs a small block a fifth of its time.
-    match across & down {
-        true => evc_mc_nn(t, plane, at, stride, w, h, dx, dy, pred),
-        false => match across | down {
-            true => {
-                let phase = either(across, dx, dy);
-                evc_mc_one(t, plane, at, stride, across, w, h, phase, pred);
-            }
-            false => evc_mc_00(plane, at, stride, w, h, pred),
-        },
+    let t = PlaneType::Y;
+    if !(evc_def::is_block_side(w) & evc_def::is_block_side(h)) {
+        return 2;
     }
+    if is_short(t, pic_w, pic_h, w, h, plane.len(), pred.len()) {
+        return 4;
+    }
+    let p = position_of(t, pic_w, pic_h, ori_mv, gmv);
+    if window_exceeds(t, pic_w, pic_h, gmv, w, h, plane) {
+        return 6;
+    }
+    let w = w as usize;
+    let h = h as usize;
+    predict(
+        t,
+        p.stride,
+        p.at,
+        p.across,
+        p.down,
+        p.dx,
+        p.dy,
+        w,
+        h,
+        plane,
+        pred,
+    );
+    0
+}
+
+fn evc_mc_c(
+    pic_w: u32,
+    pic_h: u32,
+    ori_mv: EvcMv,
+    gmv: EvcMv,
+    w: u32,
+    h: u32,
+    plane: &[u16],
+    pred: &mut [u16],
+) -> u32
+    requires { ⌜ badPicture «pic_w» «pic_h» ≡ false ⌝ }
+    ensures { λ r. ⌜ r ≡ mcPlaneCode PlaneType.UV «pic_w» «pic_h» gmv w h (now (plane .entry)) (now (pred .entry)) ⌝ }
+    ensures { λ _. ⌜ now (pred .exit) ≡ mcPlaneAfter PlaneType.UV «pic_w» «pic_h» «ori_mv» gmv w h (now (plane .entry)) (now (pred .entry)) ⌝ }
+{
+    let t = PlaneType::UV;
+    if !(is_chroma_side(w) & is_chroma_side(h)) {
+        return 2;
+    }
+    if is_short(t, pic_w, pic_h, w, h, plane.len(), pred.len()) {
+        return 4;
+    }
+    let p = position_of(t, pic_w, pic_h, ori_mv, gmv);
+    if window_exceeds(t, pic_w, pic_h, gmv, w, h, plane) {
+        return 6;
+    }
+    let w = w as usize;
+    let h = h as usize;
+    predict(
+        t,
+        p.stride,
+        p.at,
+        p.across,
+        p.down,
+        p.dx,
+        p.dy,
+        w,
+        h,
+        plane,
+        pred,
+    );
+    0
 }
 
 pub fn evc_mc_plane(
@@ -438,20 +538,11 @@ pub fn evc_mc_plane(
     ensures { λ r. ⌜ r ≡ mcPlaneCode t «pic_w» «pic_h» gmv w h (now (plane .entry)) (now (pred .entry)) ⌝ }
     ensures { λ _. ⌜ now (pred .exit) ≡ mcPlaneAfter t «pic_w» «pic_h» «ori_mv» gmv w h (now (plane .entry)) (now (pred .entry)) ⌝ }
 {
-    let code = mc_plane_code(t, pic_w, pic_h, gmv, w, h, plane, pred);
-    if code != 0 {
-        return code;
+    if evc_def::bad_picture(pic_w, pic_h) {
+        return 1;
     }
-    predict(
-        t,
-        pic_w,
-        pic_h,
-        ori_mv,
-        gmv,
-        w as usize,
-        h as usize,
-        plane,
-        pred,
-    );
-    0
+    match t {
+        PlaneType::Y => evc_mc_l(pic_w, pic_h, ori_mv, gmv, w, h, plane, pred),
+        PlaneType::UV => evc_mc_c(pic_w, pic_h, ori_mv, gmv, w, h, plane, pred),
+    }
 }

@@ -10,15 +10,15 @@ ghost use mir.Val.{SFits};
 ghost use Rattle.evc_int.specs.Lists.{withRow, withBlock};
 ghost use Rattle.evc_def.specs.Blocks.{badPicture};
 ghost use Rattle.evc_def.specs.Codes.{firstOf, blockChecks};
-ghost use Rattle.evc_plane.specs.Planes.{sideOf};
 ghost use Rattle.evc_clip.specs.Clip.{clippedPlace};
-ghost use Rattle.evc_interp.specs.Prediction.{predicted, mcPlaneCode};
+ghost use Rattle.evc_interp.specs.Code.{Readable, sampleFrom};
 ghost use Rattle.evc_mc.specs.Block.{refPicList, Component, withSamples, listSample, firstSample, isBi, average, predLen, listShort, pocExceeds, listExceeds, mc2Code, mc2First, mc2Second};
-ghost use Rattle.evc_mc.specs.Steps.{either, Examined, ListExamined, withList, blockSample, RowSmall, BlockSmall};
+ghost use Rattle.evc_mc.specs.Steps.{either, ListExamined, withList, blockSample, RowSmall, BlockSmall};
 use evc_def::EvcBlock;
 use evc_def::EvcMv;
 use evc_def::MAX_POC;
 use evc_def::Pel;
+use evc_interp::Position;
 use evc_plane::PlaneType;
 
 // A list of a block: whether it is in use, its vector, and its picture's order count.
@@ -80,9 +80,8 @@ fn list_exceeds(b: EvcBlock, list: EvcList, y: &[u16], u: &[u16], v: &[u16]) -> 
     let gmv = clipped_place(b, list.mv);
     let w = b.w / 2;
     let h = b.h / 2;
-    evc_interp::window_exceeds(PlaneType::Y, b.pic_w, b.pic_h, gmv, b.w, b.h, y)
-        | evc_interp::window_exceeds(PlaneType::UV, b.pic_w, b.pic_h, gmv, w, h, u)
-        | evc_interp::window_exceeds(PlaneType::UV, b.pic_w, b.pic_h, gmv, w, h, v)
+    evc_interp::window_exceeds(PlaneType::Y, b.pic_w, b.pic_h, gmv, b.w, b.h, &*y)
+        | evc_interp::windows_exceed(PlaneType::UV, b.pic_w, b.pic_h, gmv, w, h, &*u, &*v)
 }
 
 fn mc2_code(
@@ -134,9 +133,7 @@ fn pick<'a>(a: &'a mut [u16], b: &'a mut [u16], second: bool) -> &'a mut [u16]
 
 fn predict_picked(
     t: PlaneType,
-    b: EvcBlock,
-    ori_mv: EvcMv,
-    gmv: EvcMv,
+    p: Position,
     w: usize,
     h: usize,
     plane: &[u16],
@@ -144,11 +141,23 @@ fn predict_picked(
     part1: &mut [u16],
     second: bool,
 )
-    requires { ⌜ mcPlaneCode t (b .«pic_w») (b .«pic_h») gmv w h (now plane) (either second (now part0) (now part1)) ≡ 0 ⌝ }
-    ensures { λ _. ⌜ either second (now (part0 .exit)) (now (part1 .exit)) ≡ withBlock (either second (now (part0 .entry)) (now (part1 .entry))) 0 w w h (predicted t (b .«pic_w») (b .«pic_h») «ori_mv» gmv (now (plane .entry))) ⌝ }
+    requires { ⌜ Readable t p w h (now plane) × (h * w ≤ length (either second (now part0) (now part1))) ⌝ }
+    ensures { λ _. ⌜ either second (now (part0 .exit)) (now (part1 .exit)) ≡ withBlock (either second (now (part0 .entry)) (now (part1 .entry))) 0 w w h (sampleFrom t p (now (plane .entry))) ⌝ }
 {
     let pred = pick(part0, part1, second);
-    evc_interp::predict(t, b.pic_w, b.pic_h, ori_mv, gmv, w, h, plane, pred);
+    evc_interp::predict(
+        t,
+        p.stride,
+        p.at,
+        p.across,
+        p.down,
+        p.dx,
+        p.dy,
+        w,
+        h,
+        plane,
+        pred,
+    );
 }
 
 // The end of a part: its end where it is wanted, and its start, for an empty part, where it is not.
@@ -162,31 +171,26 @@ fn end_if(wanted: bool, start: usize, end: usize) -> usize
 // One plane of a list to the picked block, at the plane's offset. Of the other block an empty part is lent.
 fn predict_component(
     t: PlaneType,
-    b: EvcBlock,
-    ori_mv: EvcMv,
-    gmv: EvcMv,
+    p: Position,
+    w: usize,
+    h: usize,
     plane: &[u16],
     pred0: &mut [u16],
     pred1: &mut [u16],
     second: bool,
     offset: usize,
 )
-    requires { ⌜ firstOf (blockChecks b) ≡ 0 ⌝ }
-    requires { ⌜ Examined b t gmv (now plane) ⌝ }
-    requires { ⌜ (offset + sideOf t (b .h) * sideOf t (b .w) ≤ length (now pred0)) × (offset + sideOf t (b .h) * sideOf t (b .w) ≤ length (now pred1)) ⌝ }
-    ensures { λ _. ⌜ now (pred0 .exit) ≡ either second (withBlock (now (pred0 .entry)) offset (sideOf t (b .w)) (sideOf t (b .w)) (sideOf t (b .h)) (predicted t (b .«pic_w») (b .«pic_h») «ori_mv» gmv (now (plane .entry)))) (now (pred0 .entry)) ⌝ }
-    ensures { λ _. ⌜ now (pred1 .exit) ≡ either second (now (pred1 .entry)) (withBlock (now (pred1 .entry)) offset (sideOf t (b .w)) (sideOf t (b .w)) (sideOf t (b .h)) (predicted t (b .«pic_w») (b .«pic_h») «ori_mv» gmv (now (plane .entry)))) ⌝ }
+    requires { ⌜ Readable t p w h (now plane) ⌝ }
+    requires { ⌜ (offset + h * w ≤ length (now pred0)) × (offset + h * w ≤ length (now pred1)) ⌝ }
+    ensures { λ _. ⌜ now (pred0 .exit) ≡ either second (withBlock (now (pred0 .entry)) offset w w h (sampleFrom t p (now (plane .entry)))) (now (pred0 .entry)) ⌝ }
+    ensures { λ _. ⌜ now (pred1 .exit) ≡ either second (now (pred1 .entry)) (withBlock (now (pred1 .entry)) offset w w h (sampleFrom t p (now (plane .entry)))) ⌝ }
 {
-    let w = evc_plane::side(t, b.w);
-    let h = evc_plane::side(t, b.h);
     let end = offset + h * w;
     let end0 = end_if(!second, offset, end);
     let end1 = end_if(second, offset, end);
     predict_picked(
         t,
-        b,
-        ori_mv,
-        gmv,
+        p,
         w,
         h,
         plane,
@@ -217,12 +221,35 @@ fn predict_list(
     if !list.used {
         return;
     }
-    let mv = list.mv;
+    let w = b.w as usize;
+    let h = b.h as usize;
+    let luma = evc_interp::position_of(PlaneType::Y, b.pic_w, b.pic_h, list.mv, gmv);
+    let chroma = evc_interp::position_of(PlaneType::UV, b.pic_w, b.pic_h, list.mv, gmv);
     let offset_u = evc_def::cu_dim_offset(1);
     let offset_v = evc_def::cu_dim_offset(2);
-    predict_component(PlaneType::Y, b, mv, gmv, y, pred0, pred1, second, 0);
-    predict_component(PlaneType::UV, b, mv, gmv, u, pred0, pred1, second, offset_u);
-    predict_component(PlaneType::UV, b, mv, gmv, v, pred0, pred1, second, offset_v);
+    predict_component(PlaneType::Y, luma, w, h, &*y, pred0, pred1, second, 0);
+    predict_component(
+        PlaneType::UV,
+        chroma,
+        w / 2,
+        h / 2,
+        &*u,
+        pred0,
+        pred1,
+        second,
+        offset_u,
+    );
+    predict_component(
+        PlaneType::UV,
+        chroma,
+        w / 2,
+        h / 2,
+        &*v,
+        pred0,
+        pred1,
+        second,
+        offset_v,
+    );
 }
 
 // ---- two predictions

@@ -238,14 +238,11 @@ fn or_rows(s: &[u16], at: usize, stride: usize, n: usize, h: usize) -> u16
     o
 }
 
-// Strips suit a window, which is narrow; a picture is read row after row.
-fn or_block(s: &[u16], at: usize, stride: usize, n: usize, h: usize) -> u16
-    requires { ⌜ at + h * stride + n ≤ length (now s) + stride ⌝ }
+// A window, which is narrow: by lanes over all its rows.
+fn or_window(s: &[u16], at: usize, stride: usize, n: usize, h: usize) -> u16
+    requires { ⌜ (at + h * stride + n ≤ length (now s) + stride) × (4 ≤ n) × (0 < h) ⌝ }
     ensures { λ r. ⌜ tooLarge r ≡ exceeds (now (s .entry)) at stride n h ⌝ }
 {
-    if (n < 4) | (n > 80) | (h < 1) {
-        return or_rows(s, at, stride, n, h);
-    }
     if n <= 8 {
         return or_quads(s, at, stride, n, h);
     }
@@ -256,11 +253,22 @@ fn or_block(s: &[u16], at: usize, stride: usize, n: usize, h: usize) -> u16
 }
 
 // Whether a sample above 1023 is among h rows of n, the rows `stride` apart and the first one at `at`.
-pub fn exceeds(s: &[u16], at: usize, stride: usize, n: usize, h: usize) -> bool
+pub fn window_exceeds(s: &[u16], at: usize, stride: usize, n: usize, h: usize) -> bool
+    requires { ⌜ (at + h * stride + n ≤ length (now s) + stride) × (4 ≤ n) × (0 < h) ⌝ }
+    ensures { λ r. ⌜ r ≡ exceeds (now (s .entry)) at stride n h ⌝ }
+{
+    or_window(&*s, at, stride, n, h) > MAX_SAMPLE_VAL
+}
+
+// The same of a picture: row after row, unless it is as narrow as a window.
+fn exceeds(s: &[u16], at: usize, stride: usize, n: usize, h: usize) -> bool
     requires { ⌜ at + h * stride + n ≤ length (now s) + stride ⌝ }
     ensures { λ r. ⌜ r ≡ exceeds (now (s .entry)) at stride n h ⌝ }
 {
-    or_block(s, at, stride, n, h) > MAX_SAMPLE_VAL
+    if (n < 4) | (n > 80) | (h < 1) {
+        return or_rows(s, at, stride, n, h) > MAX_SAMPLE_VAL;
+    }
+    window_exceeds(s, at, stride, n, h)
 }
 
 // ---- padding

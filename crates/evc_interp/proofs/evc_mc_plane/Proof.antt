@@ -1,32 +1,55 @@
--- `evc_interp::evc_mc_plane` meets its contract: refused and untouched, or predicted. Assumes nothing.
-use mathlib.Core.Path.{_≡_, sym, _∙_}
-use mathlib.Core.List.{List}
-use Prim.Native.Nat.{ℕ}
+-- `evc_interp::evc_mc_plane` meets its contract: refused, or the call of its plane. Assumes nothing.
+use mathlib.Core.Path.{_≡_, sym, ap, _∙_}
+use mathlib.Core.Bool.{false}
+use native.Mathlib.Omega.{arith}
 use borrow.Author.Needs.{needs}
-use borrow.Author.Tests.{ne-eqb}
-use Rattle.evc_int.specs.Lists.{withBlock}
-use Rattle.evc_def.specs.declared.EvcMv.{EvcMv}
+use Rattle.evc_def.specs.Blocks.{badPicture}
 use Rattle.evc_plane.specs.declared.PlaneType.{PlaneType}
-use Rattle.evc_interp.specs.Prediction.{predicted, mcPlaneCode, mcPlaneAfter}
+use Rattle.evc_interp.specs.Prediction.{mcPlaneCode, mcPlaneAfter}
+use Rattle.evc_interp.proofs.Codes.{code-1, untouched}
 use Rattle.evc_interp.proofs.evc_mc_plane.Statement.{statement}
 use Rattle.evc_interp.proofs.evc_mc_plane.Tie as tie
 
-module _ (k : PlaneType) (W H : ℕ) (ori gmv : EvcMv) (w h : ℕ) (s d : List ℕ) where
-  untouched : (code : ℕ) → code ≡ mcPlaneCode k W H gmv w h s d → (code ≡ 0 → ⊥) → d ≡ mcPlaneAfter k W H ori gmv w h s d
-  unfolding mcPlaneAfter
-  untouched code e n = rw (sym e, ne-eqb code 0 n)
+abbrev start : tie.After-bad-picture → tie.Start
+start c = c .before .before .before
 
-  after : mcPlaneCode k W H gmv w h s d ≡ 0 → mcPlaneAfter k W H ori gmv w h s d ≡ withBlock d 0 w w h (predicted k W H ori gmv s)
-  unfolding mcPlaneAfter
-  after e = rw e
+picture : (c : tie.Else1) → let a = start (c .before) .args in badPicture (a .pic-w) (a .pic-h) ≡ false
+picture c = sym (c .before .bad-picture .ensures) ∙ c .if1 .left
 
 returns : tie.Need-returns
-returns c = (c .before .mc-plane-code .ensures, untouched _ _ _ _ _ _ _ _ _ _ (c .before .mc-plane-code .ensures) (c .if1 .taken))
+returns c = untouched _ _ _ _ _ _ _ _ _ 1 (omega arith) (code-1 _ _ _ _ _ _ _ _ (sym (c .before .bad-picture .ensures) ∙ c .if1 .taken))
 
 returns-2 : tie.Need-returns-2
 returns-2 c =
-    let e = c .before .before .before .before in
-    let a = sym (e .before .mc-plane-code .ensures) ∙ e .if1 .left in (sym a, c .before .before .predict .ensures ∙ sym (after _ _ _ _ _ _ _ _ _ a))
+    let q = c .before .before in
+    let t = q .before .before in
+    let a = start (t .before .before .before) .args in
+    let e = sym (t .enum-told .given .1) in (
+      q .evc-mc-l .ensures .0 ∙ ap (λ (k : PlaneType). mcPlaneCode k (a .pic-w) (a .pic-h) (a .gmv) (a .w) (a .h) (a .plane .now) (a .pred .now)) e,
+      q .evc-mc-l .ensures .1 ∙ ap (λ (k : PlaneType). mcPlaneAfter k (a .pic-w) (a .pic-h) (a .ori-mv) (a .gmv) (a .w) (a .h) (a .plane .now) (a .pred .now)) e,
+    )
+
+returns-3 : tie.Need-returns-3
+returns-3 c =
+    let q = c .before .before in
+    let t = q .before .before in
+    let a = start (t .before .before .before) .args in
+    let e = sym (t .enum-told2 .given .1) in (
+      q .evc-mc-c .ensures .0 ∙ ap (λ (k : PlaneType). mcPlaneCode k (a .pic-w) (a .pic-h) (a .gmv) (a .w) (a .h) (a .plane .now) (a .pred .now)) e,
+      q .evc-mc-c .ensures .1 ∙ ap (λ (k : PlaneType). mcPlaneAfter k (a .pic-w) (a .pic-h) (a .ori-mv) (a .gmv) (a .w) (a .h) (a .plane .now) (a .pred .now)) e,
+    )
 
 pub evc-mc-plane-spec : {M : Type 1} → statement M
-evc-mc-plane-spec = tie.close (tie.spec (λ c κs. search needs) (λ c. search needs) returns (λ c κs. search needs) (λ c. search needs) returns-2)
+evc-mc-plane-spec =
+    tie.close
+    (tie.spec
+    (λ c κs. search needs)
+    returns
+    (λ c. search needs)
+    (λ c κs. picture (c .before .before .before))
+    (λ c. search needs)
+    (λ c κs. picture (c .before .before .before))
+    (λ c. search needs)
+    returns-2
+    (λ c. search needs)
+    returns-3)

@@ -3,26 +3,25 @@ use mathlib.Core.Path.{_≡_, _∙_}
 use Prim.Native.Nat.{_+_, _≤_}
 use native.Mathlib.Omega.{arith}
 use borrow.Author.Needs.{needs}
-use Rattle.evc_filter.specs.Filter.{reach}
-use Rattle.evc_interp.proofs.Windows.{Side, side, stride-is, examined-fits, examined-is}
+use Rattle.evc_interp.proofs.Windows.{Side, side, stride-is, examined-asks, examined-is}
 use Rattle.evc_interp.proofs.window_exceeds.Statement.{statement}
 use Rattle.evc_interp.proofs.window_exceeds.Tie as tie
 
-sides : (c : tie.Start) → Side (c .args .t) (c .args .w) × Side (c .args .t) (c .args .h)
-sides c = (side _ _ (c .pre .0 .1), side _ _ (c .pre .0 .2))
+sides : (s : tie.Start) → Side (s .args .t) (s .args .w) × Side (s .args .t) (s .args .h)
+sides s = (side _ _ (s .pre .0 .1), side _ _ (s .pre .0 .2))
 
-exceeds-requires : tie.Need-exceeds-requires
-exceeds-requires c κs =
+window-exceeds-requires : tie.Need-window-exceeds-requires
+window-exceeds-requires c κs =
     let s = c .before .before .before .before in
     let a = s .args in
-    let z = sides s in
-    examined-fits (a .t) (a .pic-w) (a .pic-h) (a .gmv) (a .w) (a .h) (a .plane .now) _ _ _ (s .pre .0 .0) (z .0) (z .1) (s .pre .1) (c .window .ensures) (stride-is _ _ _ _ (c .before .before .plane-config .ensures)) (c .before .rows-more .ensures)
+    let p = s .pre .0 in
+    examined-asks (a .t) (a .pic-w) (a .pic-h) (a .gmv) (a .w) (a .h) (a .plane .now) _ _ _ (p .0) (p .1) (p .2) (s .pre .1) (c .window .ensures) (stride-is _ _ _ _ (c .before .before .plane-config .ensures)) (c .before .rows-more .ensures)
 
 returns : tie.Need-returns
 returns c =
     let u = c .before in
     let a = u .before .before .before .before .args in
-    c .exceeds .ensures ∙ examined-is (a .t) (a .pic-w) (a .pic-h) (a .gmv) (a .w) (a .h) (a .plane .now) _ _ _ (u .window .ensures) (stride-is _ _ _ _ (u .before .before .plane-config .ensures)) (u .before .rows-more .ensures)
+    c .window-exceeds .ensures ∙ examined-is (a .t) (a .pic-w) (a .pic-h) (a .gmv) (a .w) (a .h) (a .plane .now) _ _ _ (u .window .ensures) (stride-is _ _ _ _ (u .before .before .plane-config .ensures)) (u .before .rows-more .ensures)
 
 pub window-exceeds-spec : {M : Type 1} → statement M
 window-exceeds-spec =
@@ -33,5 +32,5 @@ window-exceeds-spec =
     (λ c κs. search needs)
     (λ c. let z = sides (c .before .before .before .before) .0 .total in record { fits = omega (arith, c .before .rows-more .ensures) })
     (λ c. let z = sides (c .before .before .before .before) .1 .total in record { fits = omega (arith, c .before .rows-more .ensures) })
-    exceeds-requires
+    window-exceeds-requires
     returns)

@@ -1,7 +1,7 @@
 -- `evc_mc::predict_component` meets its contract: the picked part comes back predicted, and the other part is empty, so its block comes back as it was.
 -- Assumes nothing.
 use Prim.Native.Nat.{ℕ, _+_, _-_, _*_, _≤_}
-use mathlib.Core.Path.{_≡_, refl, _∙_, ap, ap₂, sym, subst}
+use mathlib.Core.Path.{_≡_, refl, _∙_, ap, sym, subst}
 use mathlib.Core.Bool.{Bool, true, false, not}
 use mathlib.Core.List.{List, [], _∷_, _++_}
 use native.Mathlib.Nat.{sub-self}
@@ -10,15 +10,8 @@ use borrow.Author.Needs.{needs}
 use lib.ListN.{length, take, drop, length-drop, take-append-drop}
 use lib.Seq.{length-take-le}
 use Rattle.evc_int.specs.Lists.{withBlock}
-use Rattle.evc_def.specs.declared.EvcBlock.{EvcBlock}
-use Rattle.evc_def.specs.declared.EvcMv.{EvcMv}
-use Rattle.evc_def.specs.Codes.{firstOf, blockChecks}
-use Rattle.evc_plane.specs.Planes.{sideOf}
-use Rattle.evc_plane.specs.declared.PlaneType.{PlaneType}
-use Rattle.evc_interp.specs.Prediction.{mcPlaneCode}
-use Rattle.evc_mc.specs.Steps.{either, Examined}
+use Rattle.evc_mc.specs.Steps.{either}
 use Rattle.evc_int.proofs.Lists.{withBlock-part}
-use Rattle.evc_mc.proofs.Checks.{plane-accepted}
 use Rattle.evc_mc.proofs.predict_component.Statement.{statement}
 use Rattle.evc_mc.proofs.predict_component.Tie as tie
 
@@ -70,72 +63,43 @@ module _ (o n h : ℕ) where
     subst (λ (k : ℕ). length zb ≡ length (take (k - o) (drop o p1)) → take o p1 ++ (zb ++ drop (k - o) (drop o p1)) ≡ p1) (sym q1) (kept p1 zb o) n1,
   )
 
--- the same by the sides that the code has
-after-sides : (o N H n h : ℕ) → n ≡ N → h ≡ H → (f : ℕ → ℕ → ℕ) (second : Bool) (p0 p1 za zb : List ℕ) (e0 e1 : ℕ) → o + H * N ≤ length p0 → o + H * N ≤ length p1
-    → e0 ≡ either (not second) o (o + h * n) → e1 ≡ either second o (o + h * n)
-    → length za ≡ length (take (e0 - o) (drop o p0)) → length zb ≡ length (take (e1 - o) (drop o p1))
-    → either second za zb ≡ withBlock (either second (take (e0 - o) (drop o p0)) (take (e1 - o) (drop o p1))) 0 n n h f
-    → (take o p0 ++ (za ++ drop (e0 - o) (drop o p0)) ≡ either second (withBlock p0 o N N H f) p0) × (take o p1 ++ (zb ++ drop (e1 - o) (drop o p1)) ≡ either second p1 (withBlock p1 o N N H f))
-after-sides o N H n h en eh f second p0 p1 za zb e0 e1 l0 l1 q0 q1 n0 n1 e =
-    rw (sym en, sym eh) (after o n h f second p0 p1 za zb e0 e1 (rw (en, eh) l0) (rw (en, eh) l1) q0 q1 n0 n1 e)
-
-accepted-sides : (b : EvcBlock) (t : PlaneType) (gmv : EvcMv) (s d : List ℕ) (n h : ℕ) → n ≡ sideOf t (b .w) → h ≡ sideOf t (b .h) → firstOf (blockChecks b) ≡ 0 → Examined b t gmv s → length d ≡ h * n
-    → mcPlaneCode t (b .«pic_w») (b .«pic_h») gmv n h s d ≡ 0
-accepted-sides b t gmv s d n h en eh e x l = rw (en, eh) (plane-accepted b t gmv s d e x (omega (arith, l, ap₂ _*_ eh en)))
-
-abbrev start : tie.After-side2 → tie.Start
-start c = c .before .before .before .before .before
-
-w-is : (c : tie.After-side2) → c .before .side .result ≡ sideOf (start c .args .t) (start c .args .b .w)
-w-is c = c .before .side .ensures
-
-h-is : (c : tie.After-side2) → c .side2 .result ≡ sideOf (start c .args .t) (start c .args .b .h)
-h-is c = c .side2 .ensures
-
--- there is room for the part in both blocks
-room : (c : tie.After-side2) → let a = start c .args in let n = c .side2 .result * c .before .side .result in (a .offset + n ≤ length (a .pred0 .now)) × (a .offset + n ≤ length (a .pred1 .now))
-room c =
-    let s = start c in
-    let e : c .side2 .result * c .before .side .result ≡ sideOf (s .args .t) (s .args .b .h) * sideOf (s .args .t) (s .args .b .w) = ap₂ _*_ (h-is c) (w-is c) in
-    (subst (λ (n : ℕ). s .args .offset + n ≤ length (s .args .pred0 .now)) (sym e) (s .pre .1 .1 .0), subst (λ (n : ℕ). s .args .offset + n ≤ length (s .args .pred1 .now)) (sym e) (s .pre .1 .1 .1))
+abbrev start : tie.After-end-if → tie.Start
+start c = c .before .before .before .before
 
 predict-picked-requires : tie.Need-predict-picked-requires
 predict-picked-requires c κs =
-    let k = c .before .before .before .before in
-    let s = start k in
-    let a = s .args in
-    let r = room k in
-    accepted-sides (a .b) (a .t) (a .gmv) (a .plane .now) _ _ _ (w-is k) (h-is k) (s .pre .0) (s .pre .1 .0)
-    (picked-length (a .offset) _ _ (a .second) (a .pred0 .now) (a .pred1 .now) _ _ (r .0) (r .1) (c .before .before .before .end-if .ensures .0) (c .before .before .end-if2 .ensures .0))
+    let i = c .before .before .before in
+    let s = start i in
+    let a = s .args in (
+      s .pre .0,
+      omega (arith, picked-length (a .offset) (a .w) (a .h) (a .second) (a .pred0 .now) (a .pred1 .now) _ _ (s .pre .1 .0) (s .pre .1 .1) (i .end-if .ensures .0) (c .before .before .end-if2 .ensures .0)),
+    )
 
 returns : tie.Need-returns
 returns c =
     let d = c .before .before .before .before in
-    let k = d .before .before .before .before .before in
-    let s = start k in
+    let i = d .before .before .before .before in
+    let s = start i in
     let a = s .args in
-    after-sides (a .offset) _ _ _ _ (w-is k) (h-is k) _ (a .second) (a .pred0 .now) (a .pred1 .now) _ _ _ _ (s .pre .1 .1 .0) (s .pre .1 .1 .1)
-    (d .before .before .before .before .end-if .ensures .0) (d .before .before .before .end-if2 .ensures .0)
-    (d .predict-picked .kept .1 .1 .1 .1 .1 .1 .1 .0) (d .predict-picked .kept .1 .1 .1 .1 .1 .1 .1 .1 .0) (d .predict-picked .ensures)
+    after (a .offset) (a .w) (a .h) _ (a .second) (a .pred0 .now) (a .pred1 .now) _ _ _ _ (s .pre .1 .0) (s .pre .1 .1) (i .end-if .ensures .0) (d .before .before .before .end-if2 .ensures .0)
+    (d .predict-picked .kept .1 .1 .1 .1 .1 .0) (d .predict-picked .kept .1 .1 .1 .1 .1 .1 .0) (d .predict-picked .ensures)
 
 pub predict-component-spec : {M : Type 1} → statement M
 predict-component-spec =
     tie.close
     (tie.spec
+    (λ c. search needs)
+    (λ c. search needs)
     (λ c κs. search needs)
     (λ c κs. search needs)
-    (λ c. record { fits = omega (arith, room c) })
-    (λ c. record { fits = omega (arith, room c) })
-    (λ c κs. search needs)
-    (λ c κs. search needs)
     (λ c. search needs)
     (λ c. search needs)
     (λ c. search needs)
-    (λ c. omega (arith, room (c .before .before)))
     (λ c. search needs)
     (λ c. search needs)
     (λ c. search needs)
-    (λ c. omega (arith, room (c .before .before .before)))
+    (λ c. search needs)
+    (λ c. search needs)
     predict-picked-requires
     (λ c. search needs)
     (λ c. search needs)

@@ -1,13 +1,14 @@
 -- `evc_mc::predict_picked` meets its contract. The picker's contract says that its result is one of the two references, name and all, so the
 -- lender that waits for that name has back what was written. Assumes nothing.
-use Prim.Native.Nat.{ℕ}
-use mathlib.Core.Path.{_≡_, _∙_, ap, sym}
+use Prim.Native.Nat.{ℕ, _*_, _≤_}
+use mathlib.Core.Path.{_≡_, _∙_, ap, sym, subst}
 use mathlib.Core.Bool.{Bool, true, false}
 use mathlib.Core.List.{List}
 use borrow.Author.Needs.{needs}
 use denote.Ref.{RefT}
 use Rattle.evc_int.specs.Lists.{withBlock}
-use Rattle.evc_interp.specs.Prediction.{predicted, mcPlaneCode}
+use lib.ListN.{length}
+use Rattle.evc_interp.specs.Code.{sampleFrom}
 use Rattle.evc_mc.specs.Steps.{either}
 use Rattle.evc_mc.proofs.predict_picked.Statement.{statement}
 use Rattle.evc_mc.proofs.predict_picked.Tie as tie
@@ -28,7 +29,7 @@ predict-requires : tie.Need-predict-requires
 predict-requires c κs =
     let s = c .before .before .before .before .before .before in
     let a = s .args in
-    ap (λ (d : List ℕ). mcPlaneCode (a .t) (a .b .«pic_w») (a .b .«pic_h») (a .gmv) (a .w) (a .h) (a .plane .now) d) (shown _ _ _ _ (c .pick .ensures)) ∙ s .pre
+    (s .pre .0, subst (λ (d : List ℕ). a .h * a .w ≤ length d) (sym (shown _ _ _ _ (c .pick .ensures))) (s .pre .1))
 
 returns : tie.Need-returns
 returns c =
@@ -36,7 +37,7 @@ returns c =
     let a = f .before .before .before .before .before .before .before .args in
     let e = f .before .pick .ensures in
     picked _ _ _ _ _ _ _ e (c .before .before .before .part0 .given .1 .0) (c .before .part1 .given .1 .0)
-    ∙ (f .predict .ensures ∙ ap (λ (d : List ℕ). withBlock d 0 (a .w) (a .w) (a .h) (predicted (a .t) (a .b .«pic_w») (a .b .«pic_h») (a .ori-mv) (a .gmv) (a .plane .now))) (shown _ _ _ _ e))
+    ∙ (f .predict .ensures ∙ ap (λ (d : List ℕ). withBlock d 0 (a .w) (a .w) (a .h) (sampleFrom (a .t) (a .p) (a .plane .now))) (shown _ _ _ _ e))
 
 pub predict-picked-spec : {M : Type 1} → statement M
 predict-picked-spec =
