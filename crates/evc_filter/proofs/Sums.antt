@@ -222,23 +222,23 @@ split-sum-is t small p q x y h =
     (t .b * (q / 64)) (t .b * (q % 64)) (t .a * p + 2 * (t .c * x) + 2 * (t .d * y) + 532480) (t .b * q)
     (omega arith) (omega arith) (omega (arith, split (t .a) p, split (t .c) x, split (t .d) y)) (split (t .b) q) (omega (arith, split (t .b) q)))
 
-module _ (k : PlaneType) (dx dy : ℕ) (l : dy < phases k) (s m : List ℕ) (at to stride : ℕ) (b : Bounded 26603 m to (offsetsOf k 8)) where
-  pub split-is : ((j : ℕ) → j ≤ reach k → Is (rowStage k dx s (at + j * stride)) (getD m (to + j * 8) 0) 5120) → splitAt m to (offsetsOf k 8) (tapsOf k dy) ≡ interpolatedTwice k dx dy s at stride
+module _ (k : PlaneType) (dx dy : ℕ) (l : dy < phases k) (s m : List ℕ) (at to stride step : ℕ) (b : Bounded 26603 m to (offsetsOf k step)) where
+  pub split-is : ((j : ℕ) → j ≤ reach k → Is (rowStage k dx s (at + j * stride)) (getD m (to + j * step) 0) 5120) → splitAt m to (offsetsOf k step) (tapsOf k dy) ≡ interpolatedTwice k dx dy s at stride
   unfolding splitAt interpolatedTwice
   split-is h =
       let t = tapsOf k dy in
       let small = taps-small k dy l in
-      let p = getD m to 0 + getD m (to + offsetsOf k 8 .p1) 0 in
-      let q = getD m (to + offsetsOf k 8 .q0) 0 + getD m (to + offsetsOf k 8 .q1) 0 in
-      let x = getD m (to + offsetsOf k 8 .x) 0 in
-      let y = getD m (to + offsetsOf k 8 .y) 0 in
+      let p = getD m to 0 + getD m (to + offsetsOf k step .p1) 0 in
+      let q = getD m (to + offsetsOf k step .q0) 0 + getD m (to + offsetsOf k step .q1) 0 in
+      let x = getD m (to + offsetsOf k step .x) 0 in
+      let y = getD m (to + offsetsOf k step .y) 0 in
       let added = t .a * p + 2 * (t .c * x) + 2 * (t .d * y) in
       let taken = t .b * q in
       let qh : q ≤ 53206 = omega (arith, b .q0-most, b .q1-most) in
       let bound : taken ≤ 532480 = omega (arith, mul-le-mul (small .b-small) qh) in
       let z = tapSum (taps k dy) (λ (j : ℕ). rowStage k dx s (at + j * stride)) in
       let n = added + 532480 - taken + 512 in
-      let sum : Is z added (taken + 64 * 5120) = sum-is k dy l m to 8 (λ (j : ℕ). rowStage k dx s (at + j * stride)) 5120 h in
+      let sum : Is z added (taken + 64 * 5120) = sum-is k dy l m to step (λ (j : ℕ). rowStage k dx s (at + j * stride)) 5120 h in
       ap (λ (i : ℕ). min (i - 840) 1023) (split-sum-is t small p q x y qh)
       ∙ clipped (shrZ (z +ℤ pos 512) 1024) (n / 1024) 840
       (rounded (z +ℤ pos 512) (added + 512) (taken + 64 * 5120) n 1024 840 (lit< tt) (is-by (is-+ sum (nat 512)) (omega arith)) (omega arith))

@@ -2,6 +2,7 @@ ghost use mathlib.Core.Path.{_≡_};
 ghost use Prim.Native.Nat.{ℕ, _+_, _-_, _*_, _/_, _%_, _<_, _≤_, min};
 ghost use lib.ListN.{length, getD};
 ghost use mathlib.Core.Bool.{true};
+ghost use mathlib.Core.Logic.{_⊎_};
 ghost use Rattle.evc_int.specs.Lists.{withRow, withBlock};
 ghost use Rattle.evc_filter.specs.Filter.{phases};
 ghost use Rattle.evc_filter.specs.Code.{tapsOf, offsetsOf, Small, quarterSum, wholeSum, splitSum, finished, Ordered, Bounded, quarterAt, oneAt, splitAt, isRowWidth};
@@ -536,17 +537,6 @@ fn split_quad(s: &[u16], at: usize, o: Offsets, t: Taps, d: &mut [u16], to: usiz
     d[to + 3] = v3;
 }
 
-fn split_pair(s: &[u16], at: usize, o: Offsets, t: Taps, d: &mut [u16], to: usize)
-    requires { ⌜ (at + 2 + o .p1 ≤ length (now s)) × (to + 2 ≤ length (now d)) × Ordered o × Small t ⌝ }
-    requires { ⌜ ((x : ℕ) → x < 2 → Bounded 26603 (now s) (at + x) o) ⌝ }
-    ensures { λ _. ⌜ now (d .exit) ≡ withRow (now (d .entry)) to 2 (λ (x : ℕ). splitAt (now (s .entry)) (at + x) o t) ⌝ }
-{
-    let v0 = split_at(s, at, o, t);
-    let v1 = split_at(s, at + 1, o, t);
-    d[to] = v0;
-    d[to + 1] = v1;
-}
-
 fn split_octs(
     s: &[u16],
     at: usize,
@@ -595,30 +585,6 @@ fn split_quads(
     }
 }
 
-fn split_pairs(
-    s: &[u16],
-    at: usize,
-    stride: usize,
-    h: usize,
-    o: Offsets,
-    t: Taps,
-    d: &mut [u16],
-    to: usize,
-    width: usize,
-    one: usize,
-)
-    requires { ⌜ (at + h * stride + 2 + o .p1 ≤ length (now s) + stride) × (to + h * width + 2 ≤ length (now d) + width) × Ordered o × Small t ⌝ }
-    requires { ⌜ ((y x : ℕ) → y < h → x < 2 → Bounded 26603 (now s) (at + y * stride + x) o) ⌝ }
-    requires { ⌜ one ≡ 1 ⌝ }
-    ensures { λ _. ⌜ now (d .exit) ≡ withBlock (now (d .entry)) to width 2 h (λ (y x : ℕ). splitAt (now (s .entry)) (at + y * stride + x) o t) ⌝ }
-{
-    let mut y = 0;
-    while y < h {
-        split_pair(s, at + y * stride, o, t, d, to + y * width);
-        y += one;
-    }
-}
-
 pub fn split_block(
     s: &[u16],
     at: usize,
@@ -632,17 +598,13 @@ pub fn split_block(
     width: usize,
     one: usize,
 )
-    requires { ⌜ (at + h * stride + n + o .p1 ≤ length (now s) + stride) × (to + h * width + n ≤ length (now d) + width) × (isRowWidth n ≡ true) × (n ≤ 8) × Ordered o × Small t ⌝ }
+    requires { ⌜ (at + h * stride + n + o .p1 ≤ length (now s) + stride) × (to + h * width + n ≤ length (now d) + width) × ((n ≡ 4) ⊎ (n ≡ 8)) × Ordered o × Small t ⌝ }
     requires { ⌜ ((y x : ℕ) → y < h → x < n → Bounded 26603 (now s) (at + y * stride + x) o) ⌝ }
     requires { ⌜ one ≡ 1 ⌝ }
     ensures { λ _. ⌜ now (d .exit) ≡ withBlock (now (d .entry)) to width n h (λ (y x : ℕ). splitAt (now (s .entry)) (at + y * stride + x) o t) ⌝ }
 {
     if n == 4 {
         split_quads(s, at, stride, h, o, t, d, to, width, one);
-        return;
-    }
-    if n == 2 {
-        split_pairs(s, at, stride, h, o, t, d, to, width, one);
         return;
     }
     split_octs(s, at, stride, h, o, t, d, to, width, one);

@@ -1,13 +1,16 @@
 -- What the paths ask of evc_filter's blocks, and what these give: the samples under the taps lie in the window. Assumes nothing.
-use Prim.Native.Nat.{ℕ, zero, suc, _+_, _*_, _%_, _<_, _≤_}
+use Prim.Native.Nat.{ℕ, zero, suc, _+_, _*_, _/_, _%_, _<_, _≤_}
+use mathlib.Core.Logic.{_⊎_, inl, inr}
 use mathlib.Core.Bool.{Bool, true, false, cond}
 use mathlib.Core.List.{List, [], _∷_}
 use mathlib.Core.Path.{_≡_, refl, sym, ap, ap₂, subst, _∙_}
-use native.Mathlib.Nat.{add-mul}
+use native.Mathlib.Nat.{add-mul, mul-le-mul-left, div-add-mod', div-lt-iff-lt-mul, mod-lt}
 use native.Mathlib.Omega.{arith}
+use borrow.Author.Tests.{le-ltb, ltb-true, ltb-false}
+use lib.Dec.{T, eqb, ltb, eqb→eq}
 use lib.ListN.{length, getD, drop}
 use Rattle.evc_int.specs.Lists.{withRow, withBlock}
-use Rattle.evc_int.proofs.Lists.{row-fits, length-withBlock, withRow-ext, withRow-join, withBlock-ext, withBlock-in, columns-step}
+use Rattle.evc_int.proofs.Lists.{row-fits, length-withBlock, withRow-ext, withRow-join, withBlock-ext, withBlock-in, withBlock-run, columns-step}
 use Rattle.evc_int.proofs.Whole.{Is}
 use Rattle.evc_filter.specs.Filter.{phases, reach, interpolated, rowStage, interpolatedTwice}
 use Rattle.evc_filter.specs.Code.{tapsOf, offsetsOf, Ordered, Small, Bounded, isRowWidth, quarterAt, oneAt, splitAt}
@@ -119,30 +122,97 @@ row-copied s r l k at stride y w e p =
     let z : y * w ≡ 0 + y * w = omega arith in
     p ∙ withRow-ext l (y * w) w _ _ (λ x lx. ap (λ (r : List ℕ). getD r x 0) e ∙ row-sample (at + y * stride) s x) ∙ ap (λ (i : ℕ). withRow l i w (λ (x : ℕ). getD s (at + y * stride + x) 0)) z
 
--- ---- two directions: n columns, through a list m of eight numbers a row
+-- ---- numbers that lie one after the other, by rows of four or eight
 
-module _ (k : PlaneType) (s m : List ℕ) (at stride n h dx : ℕ) (dx-small : dx < phases k) (q : Within s at stride (n + reach k) (h + reach k)) where
+abbrev pub lanesOf : ℕ → ℕ → ℕ
+lanesOf n h = cond (ltb (h * n) 8) 4 8
+
+pub record Lanes (n h : ℕ) : Type 0 where
+  pub four-or-eight : (lanesOf n h ≡ 4) ⊎ (lanesOf n h ≡ 8)
+  pub rows : h * n / lanesOf n h * lanesOf n h ≡ h * n
+  pub whole : n ≡ 8 → (lanesOf n h ≡ 8) × (h * n / lanesOf n h ≡ h)
+
+-- a width or a height: 2, 4 or a multiple of 8
+by-width : (P : ℕ → Type 0) (n : ℕ) → isRowWidth n ≡ true → P 2 → P 4 → ((m : ℕ) → 8 ≤ m → m % 8 ≡ 0 → P m) → P n
+by-width P n e p2 p4 pm = go (eqb n 4) (eqb n 2) refl refl
+  where
+    go : (a b : Bool) → eqb n 4 ≡ a → eqb n 2 ≡ b → P n
+    go true b f g = subst P (sym (eqb→eq n 4 (subst T (sym f) tt))) p4
+    go false true f g = subst P (sym (eqb→eq n 2 (subst T (sym g) tt))) p2
+    go false false f g = let r = eights n e (λ i. absurd (subst T (ap (λ (n : ℕ). eqb n 4) (sym i) ∙ f) tt)) (λ i. absurd (subst T (ap (λ (n : ℕ). eqb n 2) (sym i) ∙ g) tt)) in pm n (r .0) (r .1)
+
+pub lanes : (n h : ℕ) → isRowWidth n ≡ true → n ≤ 8 → isRowWidth h ≡ true → Lanes n h
+lanes n h en ln eh =
+    by-width (λ (n : ℕ). n ≤ 8 → Lanes n h) n en
+    (λ l. by-width (Lanes 2) h eh (record { four-or-eight = inl refl; rows = refl; whole = λ e. absurd (omega arith) }) (many 2 4 (omega arith) refl (λ e. absurd (omega arith))) (λ m a b. many 2 m (omega arith) (omega arith) (λ e. absurd (omega arith))))
+    (λ l. by-width (Lanes 4) h eh (many 4 2 (omega arith) refl (λ e. absurd (omega arith))) (many 4 4 (omega arith) refl (λ e. absurd (omega arith))) (λ m a b. many 4 m (omega arith) (omega arith) (λ e. absurd (omega arith))))
+    (λ m a b l. let e : m ≡ 8 = omega arith in
+    subst (λ (m : ℕ). Lanes m h) (sym e)
+    (by-width (Lanes 8) h eh (many 8 2 (omega arith) refl (λ e. refl)) (many 8 4 (omega arith) refl (λ e. refl)) (λ m a b. many 8 m (omega arith) (omega arith) (λ e. omega arith))))
+    ln
+  where
+    many : (n h : ℕ) → 8 ≤ h * n → h * n % 8 ≡ 0 → (n ≡ 8 → h * n / 8 ≡ h) → Lanes n h
+    many n h l d f = let e : lanesOf n h ≡ 8 = ap (λ (t : Bool). cond t 4 8) (le-ltb (h * n) 8 l) in record { four-or-eight = inr e; rows = rw e (omega arith); whole = λ g. (e, rw e (f g)) }
+
+-- the block that they are
+pub gathered : (d : List ℕ) (to lanes rows n h : ℕ) (f : ℕ → ℕ) → rows * lanes ≡ h * n → withBlock d to lanes lanes rows (λ (y x : ℕ). f (0 + y * lanes + x)) ≡ withBlock d to n n h (λ (y x : ℕ). f (0 + y * n + x))
+gathered d to lanes rows n h f e = run lanes rows ∙ ap (λ (k : ℕ). withRow d to k f) e ∙ sym (run n h)
+  where
+    run : (n h : ℕ) → withBlock d to n n h (λ (y x : ℕ). f (0 + y * n + x)) ≡ withRow d to (h * n) f
+    run n h = withBlock-ext d to n n h _ _ (λ y x ly lx. let e : 0 + y * n + x ≡ y * n + x = omega arith in ap f e) ∙ sym (withBlock-run d to n h f)
+
+-- the width that the code has: of a narrow block that of its lanes
+module _ (n h w lanes width : ℕ) (L : Lanes n h) (ln : n ≤ 8) (narrow : n < 8 → w ≡ n) (el : lanes ≡ lanesOf n h) (ew : width ≡ cond (ltb n 8) lanes w) where
+  by-lanes : ltb n 8 ≡ true → (width ≡ lanes) × (w ≡ n) × (h * n / lanes * lanes ≡ h * n)
+  by-lanes e = (ew ∙ ap (λ (b : Bool). cond b lanes w) e, narrow (ltb-true n 8 e), rw el (L .rows))
+
+  by-eight : ltb n 8 ≡ false → (width ≡ w) × (n ≡ 8) × (lanes ≡ 8) × (h * n / lanes ≡ h)
+  by-eight e = let m : n ≡ 8 = omega (arith, ltb-false n 8 e) in (ew ∙ ap (λ (b : Bool). cond b lanes w) e, m, el ∙ L .whole m .0, rw el (L .whole m .1))
+
+  pub lanes-rows : (h * n / lanes * lanes ≡ h * n) × ((lanes ≡ 4) ⊎ (lanes ≡ 8))
+  lanes-rows = rw el (L .rows, L .four-or-eight)
+
+  pub lanes-room : (to l : ℕ) → to + h * w + n ≤ l + w → to + h * n / lanes * width + lanes ≤ l + width
+  lanes-room to l r = go (ltb n 8) refl
+    where
+      go : (b : Bool) → ltb n 8 ≡ b → to + h * n / lanes * width + lanes ≤ l + width
+      go true e = let z = by-lanes e in rw (z .0) (omega (arith, z .2, subst (λ (w : ℕ). to + h * w + n ≤ l + w) (z .1) r))
+      go false e = let z = by-eight e in rw (z .0, z .3) (omega (arith, z .1, z .2, r))
+
+  lanes-give : (d : List ℕ) (to : ℕ) (f : ℕ → ℕ) → withBlock d to width lanes (h * n / lanes) (λ (y x : ℕ). f (0 + y * lanes + x)) ≡ withBlock d to w n h (λ (y x : ℕ). f (0 + y * n + x))
+  lanes-give d to f = go (ltb n 8) refl
+    where
+      go : (b : Bool) → ltb n 8 ≡ b → withBlock d to width lanes (h * n / lanes) (λ (y x : ℕ). f (0 + y * lanes + x)) ≡ withBlock d to w n h (λ (y x : ℕ). f (0 + y * n + x))
+      go true e = let z = by-lanes e in rw (z .0, z .1) (gathered d to lanes (h * n / lanes) n h f (z .2))
+      go false e = let z = by-eight e in rw (z .0, z .3) (ap₂ (λ (i j : ℕ). withBlock d to w i h (λ (y x : ℕ). f (0 + y * j + x))) (z .2 ∙ sym (z .1)) (z .2 ∙ sym (z .1)))
+
+-- ---- two directions: n columns, through a list m of n numbers a row
+
+module _ (k : PlaneType) (s m : List ℕ) (at stride n h dx : ℕ) (dx-small : dx < phases k) (q : Within s at stride (n + reach k) (h + reach k)) (ln : n ≤ 8) (l8 : (h + reach k) * 8 ≤ length m) where
   bound : (y x : ℕ) → y < h + reach k → x < n → Bounded 1023 s (at + y * stride + x) (offsetsOf k 1)
   bound y x ly lx = bounded 1023 k s (at + y * stride + x) 1 (across k s at stride n (h + reach k) q y x ly lx)
 
-  pub quarter-asks : (r : ℕ) (one : ℕ) → r ≡ reach k → one ≡ 1 → at + (h + reach k) * stride + (n + reach k) ≤ length s + stride → (h + reach k) * 8 ≤ length m → n ≤ 8 → isRowWidth n ≡ true
-      → ((at + (h + r) * stride + n + offsetsOf k 1 .p1 ≤ length s + stride) × (0 + (h + r) * 8 + n ≤ length m + 8) × (isRowWidth n ≡ true) × (n ≤ 8) × Ordered (offsetsOf k 1) × Small (tapsOf k dx))
+  long : (h + reach k) * n ≤ length m
+  long = omega (arith, mul-le-mul-left (h + reach k) ln)
+
+  pub quarter-asks : (r : ℕ) (one : ℕ) → r ≡ reach k → one ≡ 1 → at + (h + reach k) * stride + (n + reach k) ≤ length s + stride → isRowWidth n ≡ true
+      → ((at + (h + r) * stride + n + offsetsOf k 1 .p1 ≤ length s + stride) × (0 + (h + r) * n + n ≤ length m + n) × (isRowWidth n ≡ true) × (n ≤ 8) × Ordered (offsetsOf k 1) × Small (tapsOf k dx))
       × (((y x : ℕ) → y < h + r → x < n → Bounded 1023 s (at + y * stride + x) (offsetsOf k 1)) × (one ≡ 1))
-  quarter-asks r one e e1 a b c w = rw e ((omega (arith, last-place k 1), omega arith, w, c, offsets-ordered k 1, taps-small k dx dx-small), (bound, e1))
+  quarter-asks r one e e1 a w = rw e ((omega (arith, last-place k 1), omega (arith, long), w, ln, offsets-ordered k 1, taps-small k dx dx-small), (bound, e1))
 
   -- what m holds after the first stage
   module _ (v : List ℕ) (r : ℕ) (o : Offsets) (t : Taps) (er : r ≡ reach k) (eo : o ≡ offsetsOf k 1) (et : t ≡ tapsOf k dx)
-      (p : v ≡ withBlock m 0 8 n (h + r) (λ (y x : ℕ). quarterAt s (at + y * stride + x) o t)) (lm : (h + reach k) * 8 ≤ length m) (ln : n ≤ 8) where
-    holds : (y x : ℕ) → y < h + reach k → x < n → getD v (0 + y * 8 + x) 0 ≡ quarterAt s (at + y * stride + x) (offsetsOf k 1) (tapsOf k dx)
+      (p : v ≡ withBlock m 0 n n (h + r) (λ (y x : ℕ). quarterAt s (at + y * stride + x) o t)) where
+    holds : (y x : ℕ) → y < h + reach k → x < n → getD v (0 + y * n + x) 0 ≡ quarterAt s (at + y * stride + x) (offsetsOf k 1) (tapsOf k dx)
     holds y x ly lx =
-        ap (λ (l : List ℕ). getD l (0 + y * 8 + x) 0) p
-        ∙ withBlock-in 0 m 0 8 n (h + r) _ y x (omega arith) lx ln (omega (arith, ap (λ (i : ℕ). (h + i) * 8) er))
+        ap (λ (l : List ℕ). getD l (0 + y * n + x) 0) p
+        ∙ withBlock-in 0 m 0 n n (h + r) _ y x (omega arith) lx (omega arith) (omega (arith, long, ap (λ (i : ℕ). (h + i) * n) er))
         ∙ ap₂ (λ (o : Offsets) (t : Taps). quarterAt s (at + y * stride + x) o t) eo et
 
     -- row y, and the j-th one further down
-    further : (y x j : ℕ) → y < h → x < n → j ≤ reach k → getD v (0 + y * 8 + x + j * 8) 0 ≡ quarterAt s (at + y * stride + x + j * stride) (offsetsOf k 1) (tapsOf k dx)
+    further : (y x j : ℕ) → y < h → x < n → j ≤ reach k → getD v (0 + y * n + x + j * n) 0 ≡ quarterAt s (at + y * stride + x + j * stride) (offsetsOf k 1) (tapsOf k dx)
     further y x j ly lx lj =
-        let e : 0 + y * 8 + x + j * 8 ≡ 0 + (y + j) * 8 + x = omega arith in
+        let e : 0 + y * n + x + j * n ≡ 0 + (y + j) * n + x = omega (arith, add-mul y j n) in
         let f : at + (y + j) * stride + x ≡ at + y * stride + x + j * stride = omega (arith, add-mul y j stride) in
         ap (λ (i : ℕ). getD v i 0) e ∙ holds (y + j) x (omega arith) lx ∙ ap (λ (i : ℕ). quarterAt s i (offsetsOf k 1) (tapsOf k dx)) f
 
@@ -151,27 +221,43 @@ module _ (k : PlaneType) (s m : List ℕ) (at stride n h dx : ℕ) (dx-small : d
         let f : at + (y + j) * stride + x ≡ at + y * stride + x + j * stride = omega (arith, add-mul y j stride) in
         subst (λ (i : ℕ). Bounded 1023 s i (offsetsOf k 1)) f (bound (y + j) x (omega arith) lx)
 
-    pub second-bound : (y x : ℕ) → y < h → x < n → Bounded 26603 v (0 + y * 8 + x) (offsetsOf k 8)
+    second-bound : (y x : ℕ) → y < h → x < n → Bounded 26603 v (0 + y * n + x) (offsetsOf k n)
     second-bound y x ly lx =
-        bounded 26603 k v (0 + y * 8 + x) 8
+        bounded 26603 k v (0 + y * n + x) n
         (λ j lj. subst (λ (i : ℕ). i ≤ 26603) (sym (further y x j ly lx lj)) (quarter-most s (at + y * stride + x + j * stride) (offsetsOf k 1) (tapsOf k dx) (taps-small k dx dx-small) (bound-at y x j ly lx lj)))
 
-    pub split-asks : (d : List ℕ) (to w dy one : ℕ) → dy < phases k → one ≡ 1 → to + h * w + n ≤ length d + w → isRowWidth n ≡ true
-        → ((0 + h * 8 + n + offsetsOf k 8 .p1 ≤ length v + 8) × (to + h * w + n ≤ length d + w) × (isRowWidth n ≡ true) × (n ≤ 8) × Ordered (offsetsOf k 8) × Small (tapsOf k dy))
-        × (((y x : ℕ) → y < h → x < n → Bounded 26603 v (0 + y * 8 + x) (offsetsOf k 8)) × (one ≡ 1))
-    split-asks d to w dy one l e1 a b =
-        let e : length v ≡ length m = ap length p ∙ length-withBlock m 0 8 n (h + r) _ in
-        ((omega (arith, last-place k 8), a, b, ln, offsets-ordered k 8, taps-small k dy l), (second-bound, e1))
+    -- by its place among all numbers
+    place-bound : (i : ℕ) → i < h * n → Bounded 26603 v i (offsetsOf k n)
+    place-bound i l =
+        let some : 0 < n = positive n l in
+        subst (λ (i : ℕ). Bounded 26603 v i (offsetsOf k n)) (omega (arith, div-add-mod' i n)) (second-bound (i / n) (i % n) (div-lt-iff-lt-mul some .1 l) (mod-lt i some))
+      where
+        positive : (n : ℕ) → i < h * n → 0 < n
+        positive zero l = absurd (omega arith)
+        positive (suc n) l = omega arith
 
-    row-is : (y x j : ℕ) → y < h → x < n → j ≤ reach k → Is (rowStage k dx s (at + y * stride + x + j * stride)) (getD v (0 + y * 8 + x + j * 8) 0) 5120
+    -- the second stage, over `rows` rows of `lanes` numbers
+    pub split-asks : (lanes rows : ℕ) → rows * lanes ≡ h * n → (lanes ≡ 4) ⊎ (lanes ≡ 8) → (d : List ℕ) (to width dy one : ℕ) → dy < phases k → one ≡ 1 → to + rows * width + lanes ≤ length d + width
+        → ((0 + rows * lanes + lanes + offsetsOf k n .p1 ≤ length v + lanes) × (to + rows * width + lanes ≤ length d + width) × ((lanes ≡ 4) ⊎ (lanes ≡ 8)) × Ordered (offsetsOf k n) × Small (tapsOf k dy))
+        × (((y x : ℕ) → y < rows → x < lanes → Bounded 26603 v (0 + y * lanes + x) (offsetsOf k n)) × (one ≡ 1))
+    split-asks lanes rows e f d to width dy one l e1 a =
+        let c : length v ≡ length m = ap length p ∙ length-withBlock m 0 n n (h + r) _ in
+        ((omega (arith, last-place k n, add-mul h (reach k) n, long), a, f, offsets-ordered k n, taps-small k dy l), (λ y x ly lx. place-bound (0 + y * lanes + x) (omega (arith, row-fits lanes ly)), e1))
+
+    row-is : (y x j : ℕ) → y < h → x < n → j ≤ reach k → Is (rowStage k dx s (at + y * stride + x + j * stride)) (getD v (0 + y * n + x + j * n) 0) 5120
     unfolding rowStage
     row-is y x j ly lx lj = rw (further y x j ly lx lj) (first-is k dx dx-small s (at + y * stride + x + j * stride) 1 (bound-at y x j ly lx lj))
 
-    pub split-gives : (d : List ℕ) (to w dy : ℕ) (u : Offsets) (z : Taps) → u ≡ offsetsOf k 8 → z ≡ tapsOf k dy → dy < phases k
-        → withBlock d to w n h (λ (y x : ℕ). splitAt v (0 + y * 8 + x) u z) ≡ withBlock d to w n h (λ (y x : ℕ). interpolatedTwice k dx dy s (at + y * stride + x) stride)
+    split-gives : (d : List ℕ) (to w dy : ℕ) (u : Offsets) (z : Taps) → u ≡ offsetsOf k n → z ≡ tapsOf k dy → dy < phases k
+        → withBlock d to w n h (λ (y x : ℕ). splitAt v (0 + y * n + x) u z) ≡ withBlock d to w n h (λ (y x : ℕ). interpolatedTwice k dx dy s (at + y * stride + x) stride)
     split-gives d to w dy u z eu ez l =
         withBlock-ext d to w n h _ _
-        (λ y x ly lx. ap₂ (λ (u : Offsets) (z : Taps). splitAt v (0 + y * 8 + x) u z) eu ez ∙ split-is k dx dy l s v (at + y * stride + x) (0 + y * 8 + x) stride (second-bound y x ly lx) (λ j lj. row-is y x j ly lx lj))
+        (λ y x ly lx. ap₂ (λ (u : Offsets) (z : Taps). splitAt v (0 + y * n + x) u z) eu ez ∙ split-is k dx dy l s v (at + y * stride + x) (0 + y * n + x) stride n (second-bound y x ly lx) (λ j lj. row-is y x j ly lx lj))
+
+    -- the same from the rows that the code has
+    pub split-done : (w lanes width : ℕ) → Lanes n h → (n < 8 → w ≡ n) → lanes ≡ lanesOf n h → width ≡ cond (ltb n 8) lanes w → (d : List ℕ) (to dy : ℕ) (u : Offsets) (z : Taps) → u ≡ offsetsOf k n → z ≡ tapsOf k dy → dy < phases k
+        → withBlock d to width lanes (h * n / lanes) (λ (y x : ℕ). splitAt v (0 + y * lanes + x) u z) ≡ withBlock d to w n h (λ (y x : ℕ). interpolatedTwice k dx dy s (at + y * stride + x) stride)
+    split-done w lanes width L narrow el ew d to dy u z eu ez l = lanes-give n h w lanes width L ln narrow el ew d to (λ (i : ℕ). splitAt v i u z) ∙ split-gives d to w dy u z eu ez l
 
 -- ---- a block by groups of eight columns
 

@@ -146,7 +146,8 @@ fn evc_mc_one(
     }
 }
 
-// n columns of a block: the first stage goes through m, eight numbers a row.
+// n columns of a block: the first stage goes through m, n numbers a row. Those of a narrow block lie one after the other, as its samples do, so
+// that the second stage goes over them in rows of eight; a block of 2 by 2 has but four.
 fn columns(
     t: PlaneType,
     s: &[u16],
@@ -162,8 +163,8 @@ fn columns(
     w: usize,
 )
     requires { ⌜ (at + (h + reach t) * stride + (n + reach t) ≤ length (now s) + stride) × (to + h * w + n ≤ length (now pred) + w) ⌝ }
-    requires { ⌜ (isRowWidth n ≡ true) × (n ≤ 8) × (h ≤ 64) × (dx < phases t) × (dy < phases t) × ((h + reach t) * 8 ≤ length (now m)) ⌝ }
-    requires { ⌜ Within (now s) at stride (n + reach t) (h + reach t) ⌝ }
+    requires { ⌜ (isRowWidth n ≡ true) × (n ≤ 8) × (isRowWidth h ≡ true) × (h ≤ 64) × (dx < phases t) × (dy < phases t) × ((h + reach t) * 8 ≤ length (now m)) ⌝ }
+    requires { ⌜ (n < 8 → w ≡ n) × Within (now s) at stride (n + reach t) (h + reach t) ⌝ }
     ensures { λ _. ⌜ now (pred .exit) ≡ withBlock (now (pred .entry)) to w n h (λ (y x : ℕ). interpolatedTwice t dx dy (now (s .entry)) (at + y * stride + x) stride) ⌝ }
 {
     let one = unit(h);
@@ -177,20 +178,22 @@ fn columns(
         evc_filter::taps_of(t, dx),
         m,
         0,
-        8,
+        n,
         one,
     );
+    let lanes = either(h * n < 8, 4, 8);
+    let width = either(n < 8, lanes, w);
     evc_filter::split_block(
         m,
         0,
-        8,
-        n,
-        h,
-        evc_filter::offsets_of(t, 8),
+        lanes,
+        lanes,
+        h * n / lanes,
+        evc_filter::offsets_of(t, n),
         evc_filter::taps_of(t, dy),
         pred,
         to,
-        w,
+        width,
         one,
     );
 }
@@ -209,7 +212,7 @@ fn groups(
     pred: &mut [u16],
 )
     requires { ⌜ (at + (h + reach t) * stride + (w + reach t) ≤ length (now s) + stride) × (h * w ≤ length (now pred)) ⌝ }
-    requires { ⌜ (isRowWidth w ≡ true) × (w ≤ 64) × (h ≤ 64) × (dx < phases t) × (dy < phases t) × ((h + reach t) * 8 ≤ length (now m)) ⌝ }
+    requires { ⌜ (isRowWidth w ≡ true) × (w ≤ 64) × (isRowWidth h ≡ true) × (h ≤ 64) × (dx < phases t) × (dy < phases t) × ((h + reach t) * 8 ≤ length (now m)) ⌝ }
     requires { ⌜ Within (now s) at stride (w + reach t) (h + reach t) ⌝ }
     ensures { λ _. ⌜ now (pred .exit) ≡ withBlock (now (pred .entry)) 0 w w h (λ (y x : ℕ). interpolatedTwice t dx dy (now (s .entry)) (at + y * stride + x) stride) ⌝ }
 {
@@ -236,7 +239,7 @@ fn evc_mc_nn(
     pred: &mut [u16],
 )
     requires { ⌜ (at + (h + reach t) * stride + (w + reach t) ≤ length (now s) + stride) × (h * w ≤ length (now pred)) ⌝ }
-    requires { ⌜ (isRowWidth w ≡ true) × (w ≤ 64) × (h ≤ sideOf t 64) × (dx < phases t) × (dy < phases t) ⌝ }
+    requires { ⌜ (isRowWidth w ≡ true) × (w ≤ 64) × (isRowWidth h ≡ true) × (h ≤ sideOf t 64) × (dx < phases t) × (dy < phases t) ⌝ }
     requires { ⌜ Within (now s) at stride (w + reach t) (h + reach t) ⌝ }
     ensures { λ _. ⌜ now (pred .exit) ≡ withBlock (now (pred .entry)) 0 w w h (λ (y x : ℕ). interpolatedTwice t dx dy (now (s .entry)) (at + y * stride + x) stride) ⌝ }
 {

@@ -1,42 +1,65 @@
 -- `evc_interp::columns` meets its contract. Assumes nothing.
 use mathlib.Core.Path.{_≡_, _∙_}
+use Prim.Native.Nat.{ℕ, _+_, _*_, _/_, _<_, _≤_}
+use native.Mathlib.Nat.{mul-le-mul}
 use native.Mathlib.Omega.{arith}
+use mathlib.Core.Logic.{⊎-elim}
 use borrow.Author.Needs.{needs}
-use Rattle.evc_interp.proofs.Paths.{quarter-asks, split-asks, split-gives}
+use Rattle.evc_interp.proofs.Paths.{Lanes, lanes, lanes-rows, lanes-room, quarter-asks, split-asks, split-done}
 use Rattle.evc_interp.proofs.columns.Statement.{statement}
 use Rattle.evc_interp.proofs.columns.Tie as tie
 
+count : (s : tie.Start) → s .args .h * s .args .n ≤ 512
+count s = let p = s .pre .1 .0 in mul-le-mul (p .3) (p .1)
+
+rows : (s : tie.Start) → Lanes (s .args .n) (s .args .h)
+rows s = let p = s .pre .1 .0 in lanes (s .args .n) (s .args .h) (p .0) (p .1) (p .2)
+
+abbrev start : tie.After-quarter-block-arg → tie.Start
+start c = c .before .before .before .before .before .before .before .before
+
+abbrev second : tie.After-either → tie.After-quarter-block-arg
+second c = c .before .before .before .before
+
 quarter-block-requires : tie.Need-quarter-block-requires
 quarter-block-requires c κs =
-    let s = c .before .before .before .before .before .before .before .before in
+    let s = start c in
     let a = s .args in
     let p = s .pre .1 .0 in
     rw (c .before .before .offsets-of .ensures, c .before .taps-of .ensures)
-    (quarter-asks (a .t) (a .s .now) (a .m .now) (a .at) (a .stride) (a .n) (a .h) (a .dx) (p .3) (s .pre .1 .1) _ _ (c .before .before .before .rows-more .ensures) (c .before .before .before .before .unit .ensures)
-    (s .pre .0 .0) (p .5) (p .1) (p .0))
+    (quarter-asks (a .t) (a .s .now) (a .m .now) (a .at) (a .stride) (a .n) (a .h) (a .dx) (p .4) (s .pre .1 .1 .1) (p .1) (p .6) _ _ (c .before .before .before .rows-more .ensures) (c .before .before .before .before .unit .ensures)
+    (s .pre .0 .0) (p .0))
+
+some-lanes : (c : tie.After-either) → 0 < c .either .result
+some-lanes c = let s = start (second c) in ⊎-elim (λ e. omega (arith, e, c .either .ensures)) (λ e. omega (arith, e, c .either .ensures)) (rows s .four-or-eight)
 
 split-block-requires : tie.Need-split-block-requires
 split-block-requires c κs =
-    let g = c .before .before .before .before .before .before in
-    let f = g .before in
-    let s = f .before .before .before .before .before .before .before .before in
+    let w = c .before .before .before .before in
+    let e = w .before in
+    let f = second e in
+    let s = start f in
     let a = s .args in
     let p = s .pre .1 .0 in
+    let r = lanes-rows (a .n) (a .h) (a .w) _ _ (rows s) (p .1) (s .pre .1 .1 .0) (e .either .ensures) (w .either2 .ensures) in
     rw (c .before .before .offsets-of2 .ensures, c .before .taps-of2 .ensures)
-    (split-asks (a .t) (a .s .now) (a .m .now) (a .at) (a .stride) (a .n) (a .h) (a .dx) (p .3) (s .pre .1 .1) _ _ _ _ (f .before .before .before .rows-more .ensures) (f .before .before .offsets-of .ensures) (f .before .taps-of .ensures)
-    (g .quarter-block .ensures) (p .5) (p .1) (a .pred .now) (a .to) (a .w) (a .dy) _ (p .4) (f .before .before .before .before .unit .ensures) (s .pre .0 .1) (p .0))
+    (split-asks (a .t) (a .s .now) (a .m .now) (a .at) (a .stride) (a .n) (a .h) (a .dx) (p .4) (s .pre .1 .1 .1) (p .1) (p .6) _ _ _ _ (f .before .before .before .rows-more .ensures) (f .before .before .offsets-of .ensures) (f .before .taps-of .ensures)
+    (e .before .before .before .quarter-block .ensures) _ _ (r .0) (r .1) (a .pred .now) (a .to) _ (a .dy) _ (p .5) (f .before .before .before .before .unit .ensures)
+    (lanes-room (a .n) (a .h) (a .w) _ _ (rows s) (p .1) (s .pre .1 .1 .0) (e .either .ensures) (w .either2 .ensures) (a .to) _ (s .pre .0 .1)))
 
 returns : tie.Need-returns
 returns c =
-    let u = c .before .before .before in
-    let g = u .before .before .before .before .before .before in
-    let f = g .before in
-    let s = f .before .before .before .before .before .before .before .before in
+    let q = c .before .before in
+    let u = q .before in
+    let w = u .before .before .before .before in
+    let e = w .before in
+    let f = second e in
+    let s = start f in
     let a = s .args in
     let p = s .pre .1 .0 in
-    c .before .before .split-block .ensures
-    ∙ split-gives (a .t) (a .s .now) (a .m .now) (a .at) (a .stride) (a .n) (a .h) (a .dx) (p .3) (s .pre .1 .1) _ _ _ _ (f .before .before .before .rows-more .ensures) (f .before .before .offsets-of .ensures) (f .before .taps-of .ensures)
-    (g .quarter-block .ensures) (p .5) (p .1) (a .pred .now) (a .to) (a .w) (a .dy) _ _ (u .before .before .offsets-of2 .ensures) (u .before .taps-of2 .ensures) (p .4)
+    q .split-block .ensures
+    ∙ split-done (a .t) (a .s .now) (a .m .now) (a .at) (a .stride) (a .n) (a .h) (a .dx) (p .4) (s .pre .1 .1 .1) (p .1) (p .6) _ _ _ _ (f .before .before .before .rows-more .ensures) (f .before .before .offsets-of .ensures) (f .before .taps-of .ensures)
+    (e .before .before .before .quarter-block .ensures) (a .w) _ _ (rows s) (s .pre .1 .1 .0) (e .either .ensures) (w .either2 .ensures) (a .pred .now) (a .to) (a .dy) _ _ (u .before .before .offsets-of2 .ensures) (u .before .taps-of2 .ensures) (p .5)
 
 pub columns-spec : {M : Type 1} → statement M
 columns-spec =
@@ -48,8 +71,13 @@ columns-spec =
     (λ c κs. search needs)
     (λ c κs. search needs)
     quarter-block-requires
+    (λ c. record { fits = omega (arith, count (c .before .before .before .before .before .before .before .before .before .before .before)) })
     (λ c κs. search needs)
-    (λ c κs. c .before .before .before .before .before .before .before .before .before .before .before .before .before .pre .1 .0 .4)
+    (λ c κs. search needs)
+    (λ c. record { fits = omega (arith, count (start (second (c .before .before)))) })
+    (λ c. some-lanes (c .before .before))
+    (λ c κs. let p = start (second (c .before .before)) .pre .1 .0 .1 in omega arith)
+    (λ c κs. start (second (c .before .before .before)) .pre .1 .0 .5)
     split-block-requires
     (λ c. search needs)
     (λ c. search needs)

@@ -11,21 +11,21 @@ groups-requires c κs =
     let s = c .before .before .before .before .before in
     let p = s .pre .1 .0 in
     let l = c .before .before .if1 .taken in
-    (s .pre .0, ((p .0, p .1, omega arith, p .3, p .4, low-fits (s .args .t) (s .args .h) l), s .pre .1 .1))
+    (s .pre .0, ((p .0, p .1, p .2, omega arith, p .4, p .5, low-fits (s .args .t) (s .args .h) l), s .pre .1 .1))
 
 groups-requires-2 : tie.Need-groups-requires-2
 groups-requires-2 c κs =
     let s = c .before .before .before .before .before .before .before in
     let p = s .pre .1 .0 in
-    let f = stage-fits (s .args .t) Y (s .args .h) (c .before .before .enum-told .given .1) (p .2) in
-    (s .pre .0, ((p .0, p .1, f .0, p .3, p .4, f .1), s .pre .1 .1))
+    let f = stage-fits (s .args .t) Y (s .args .h) (c .before .before .enum-told .given .1) (p .3) in
+    (s .pre .0, ((p .0, p .1, p .2, f .0, p .4, p .5, f .1), s .pre .1 .1))
 
 groups-requires-3 : tie.Need-groups-requires-3
 groups-requires-3 c κs =
     let s = c .before .before .before .before .before .before .before in
     let p = s .pre .1 .0 in
-    let f = stage-fits (s .args .t) UV (s .args .h) (c .before .before .enum-told2 .given .1) (p .2) in
-    (s .pre .0, ((p .0, p .1, f .0, p .3, p .4, f .1), s .pre .1 .1))
+    let f = stage-fits (s .args .t) UV (s .args .h) (c .before .before .enum-told2 .given .1) (p .3) in
+    (s .pre .0, ((p .0, p .1, p .2, f .0, p .4, p .5, f .1), s .pre .1 .1))
 
 pub evc-mc-nn-spec : {M : Type 1} → statement M
 evc-mc-nn-spec =

@@ -21,7 +21,7 @@ abbrev start : tie.In-loop Inv-loop μ-loop → tie.Start Inv-loop μ-loop
 start c = c .before .before .before .before .before .before
 
 columns-requires : tie.Need-columns-requires Inv-loop μ-loop
-columns-requires c κs = let s = c .before .before .before .before .before .before in let p = s .pre .1 .0 in ((s .pre .0 .0, omega (arith, s .pre .0 .1)), ((p .0, omega arith, p .2, p .3, p .4, p .5), s .pre .1 .1))
+columns-requires c κs = let s = c .before .before .before .before .before .before in let p = s .pre .1 .0 in ((s .pre .0 .0, omega (arith, s .pre .0 .1)), ((p .0, omega arith, p .2, p .3, p .4, p .5, p .6), (λ l. refl, s .pre .1 .1)))
 
 returns : tie.Need-returns Inv-loop μ-loop
 returns c = c .before .before .before .before .columns .ensures
@@ -38,7 +38,7 @@ columns-requires-2 c κs =
     let p = s .pre .1 .0 in
     let t = k .loop-test .taken in (
       (omega (arith, s .pre .0 .0), (let e = l .inv .3 in omega (arith, s .pre .0 .1))),
-      ((refl, omega arith, p .2, p .3, p .4, (let e = l .inv .2 in omega (arith, p .5))), part-within (a .s .now) (a .at) (a .stride) (a .w) (reach (a .t)) (a .h + reach (a .t)) (l .cg) 8 t (s .pre .1 .1)),
+      ((refl, omega arith, p .2, p .3, p .4, p .5, (let e = l .inv .2 in omega (arith, p .6))), (λ l. absurd (omega arith), part-within (a .s .now) (a .at) (a .stride) (a .w) (reach (a .t)) (a .h + reach (a .t)) (l .cg) 8 t (s .pre .1 .1))),
     )
 
 loop-again : tie.Need-loop-again Inv-loop μ-loop

@@ -51,7 +51,7 @@ evc-mc-nn-requires c κs =
     let s = t .before .before .before in
     let g = s .pre .0 in
     let r = asks s true true (two t .0) (two t .1) in
-    ((r .0, s .pre .1), ((g .width, g .narrow, g .high, g .dx-phase, g .dy-phase), r .1))
+    ((r .0, s .pre .1), ((g .width, g .narrow, g .height, g .high, g .dx-phase, g .dy-phase), r .1))
 
 evc-mc-one-requires : tie.Need-evc-mc-one-requires
 evc-mc-one-requires c κs =
