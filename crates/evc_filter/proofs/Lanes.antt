@@ -2,7 +2,7 @@
 use mathlib.Core.Bool.{Bool, true, false, _&&_, _||_}
 use Prim.Native.Nat.{ℕ, _+_, _%_, _<_, _≤_}
 use mathlib.Core.List.{List}
-use mathlib.Core.Path.{_≡_, sym, ap, subst, _∙_}
+use mathlib.Core.Path.{_≡_, refl, sym, ap, subst, _∙_}
 use native.Mathlib.Omega.{arith}
 use borrow.Author.Tests.{ne-eqb}
 use lib.Dec.{T, eqb, leb, leb→le, eqb→eq}
@@ -39,6 +39,15 @@ eights n e f g =
     last true b c p q r = absurd (subst T q tt)
     last false true c p q r = absurd (subst T r tt)
     last false false c p q r = p
+
+-- a width or a height is 2, 4 or a multiple of 8
+pub by-width : (P : ℕ → Type 0) (n : ℕ) → isRowWidth n ≡ true → P 2 → P 4 → ((m : ℕ) → 8 ≤ m → m % 8 ≡ 0 → P m) → P n
+by-width P n e p2 p4 pm = go (eqb n 4) (eqb n 2) refl refl
+  where
+    go : (a b : Bool) → eqb n 4 ≡ a → eqb n 2 ≡ b → P n
+    go true b f g = subst P (sym (eqb→eq n 4 (subst T (sym f) tt))) p4
+    go false true f g = subst P (sym (eqb→eq n 2 (subst T (sym g) tt))) p2
+    go false false f g = let r = eights n e (λ i. absurd (subst T (ap (λ (n : ℕ). eqb n 4) (sym i) ∙ f) tt)) (λ i. absurd (subst T (ap (λ (n : ℕ). eqb n 2) (sym i) ∙ g) tt)) in pm n (r .0) (r .1)
 
 -- a list's part is said to be k wide
 pub as-wide : (l l₀ : List ℕ) (to width n k h : ℕ) (f : ℕ → ℕ → ℕ) → n ≡ k → l ≡ withBlock l₀ to width k h f → l ≡ withBlock l₀ to width n h f

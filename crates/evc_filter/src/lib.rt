@@ -1,7 +1,8 @@
 ghost use mathlib.Core.Path.{_≡_};
 ghost use Prim.Native.Nat.{ℕ, _+_, _-_, _*_, _/_, _%_, _<_, _≤_, min};
 ghost use lib.ListN.{length, getD};
-ghost use mathlib.Core.Bool.{true};
+ghost use mathlib.Core.Bool.{true, cond};
+ghost use lib.Dec.{ltb};
 ghost use mathlib.Core.Logic.{_⊎_};
 ghost use Rattle.evc_int.specs.Lists.{withRow, withBlock};
 ghost use Rattle.evc_filter.specs.Filter.{phases};
@@ -22,32 +23,33 @@ fn sizes(a: u16, b: u16, c: u16, d: u16) -> Taps
     Taps { a, b, c, d }
 }
 
-// By phase: those of tbl_mc_l_coeff and of tbl_mc_c_coeff. A match, since a look-up in a constant array copies the array first.
-fn taps_l(phase: usize) -> Taps
-    requires { ⌜ phase < 4 ⌝ }
-    ensures { λ r. ⌜ r ≡ tapsOf PlaneType.Y phase ⌝ }
+// By row: those of tbl_mc_l_coeff, then those of tbl_mc_c_coeff. One match for both, which becomes a look-up; one in a constant array copies the array first.
+fn taps_at(row: usize) -> Taps
+    requires { ⌜ row < 12 ⌝ }
+    ensures { λ r. ⌜ r ≡ cond (ltb row 4) (tapsOf PlaneType.Y row) (tapsOf PlaneType.UV (row - 4)) ⌝ }
 {
-    match phase {
+    match row {
         0 => sizes(0, 0, 32, 0),
         1 => sizes(1, 5, 26, 10),
         2 => sizes(2, 10, 20, 20),
-        _ => sizes(1, 5, 10, 26),
+        3 => sizes(1, 5, 10, 26),
+        4 => sizes(0, 0, 32, 0),
+        5 => sizes(0, 2, 29, 5),
+        6 => sizes(0, 4, 26, 10),
+        7 => sizes(0, 6, 23, 15),
+        8 => sizes(0, 8, 20, 20),
+        9 => sizes(0, 6, 15, 23),
+        10 => sizes(0, 4, 10, 26),
+        _ => sizes(0, 2, 5, 29),
     }
 }
 
-fn taps_c(phase: usize) -> Taps
-    requires { ⌜ phase < 8 ⌝ }
-    ensures { λ r. ⌜ r ≡ tapsOf PlaneType.UV phase ⌝ }
+fn first_row(t: PlaneType) -> usize
+    ensures { λ r. ⌜ r + 4 ≡ phases t ⌝ }
 {
-    match phase {
-        0 => sizes(0, 0, 32, 0),
-        1 => sizes(0, 2, 29, 5),
-        2 => sizes(0, 4, 26, 10),
-        3 => sizes(0, 6, 23, 15),
-        4 => sizes(0, 8, 20, 20),
-        5 => sizes(0, 6, 15, 23),
-        6 => sizes(0, 4, 10, 26),
-        _ => sizes(0, 2, 5, 29),
+    match t {
+        PlaneType::Y => 0,
+        PlaneType::UV => 4,
     }
 }
 
@@ -55,10 +57,7 @@ pub fn taps_of(t: PlaneType, phase: usize) -> Taps
     requires { ⌜ phase < phases t ⌝ }
     ensures { λ r. ⌜ r ≡ tapsOf t phase ⌝ }
 {
-    match t {
-        PlaneType::Y => taps_l(phase),
-        PlaneType::UV => taps_c(phase),
-    }
+    taps_at(first_row(t) + phase)
 }
 
 // A product of 16 bits. The bounds are for the proof: callers then need no law on products.
@@ -204,8 +203,8 @@ fn split_at(s: &[u16], at: usize, o: Offsets, t: Taps) -> u16
 
 // ---- lanes and blocks of each stage: all samples are read before one is written, so that the eight lanes are one vector
 //
-// `one` is 1: where the numbers between the stages are eight to a row, a step that the optimizer does not know keeps it from widening
-// the loop over the rows, which makes it slower than the Rust.
+// `one` is 1: where rows lie one after the other, a step that the optimizer does not know keeps it from widening the loop over the rows,
+// which makes it slower than the Rust.
 
 fn quarter_oct(s: &[u16], at: usize, o: Offsets, t: Taps, d: &mut [u16], to: usize)
     requires { ⌜ (at + 8 + o .p1 ≤ length (now s)) × (to + 8 ≤ length (now d)) × Ordered o × Small t ⌝ }
@@ -406,7 +405,7 @@ fn one_pair(s: &[u16], at: usize, o: Offsets, t: Taps, d: &mut [u16], to: usize)
     d[to + 1] = v1;
 }
 
-fn one_octs(
+pub fn one_octs(
     s: &[u16],
     at: usize,
     stride: usize,
@@ -438,15 +437,17 @@ fn one_quads(
     d: &mut [u16],
     to: usize,
     width: usize,
+    one: usize,
 )
     requires { ⌜ (at + h * stride + 4 + o .p1 ≤ length (now s) + stride) × (to + h * width + 4 ≤ length (now d) + width) × Ordered o × Small t ⌝ }
     requires { ⌜ ((y x : ℕ) → y < h → x < 4 → Bounded 1023 (now s) (at + y * stride + x) o) ⌝ }
+    requires { ⌜ one ≡ 1 ⌝ }
     ensures { λ _. ⌜ now (d .exit) ≡ withBlock (now (d .entry)) to width 4 h (λ (y x : ℕ). oneAt (now (s .entry)) (at + y * stride + x) o t) ⌝ }
 {
     let mut y = 0;
     while y < h {
         one_quad(s, at + y * stride, o, t, d, to + y * width);
-        y += 1;
+        y += one;
     }
 }
 
@@ -460,19 +461,22 @@ fn one_pairs(
     d: &mut [u16],
     to: usize,
     width: usize,
+    one: usize,
 )
     requires { ⌜ (at + h * stride + 2 + o .p1 ≤ length (now s) + stride) × (to + h * width + 2 ≤ length (now d) + width) × Ordered o × Small t ⌝ }
     requires { ⌜ ((y x : ℕ) → y < h → x < 2 → Bounded 1023 (now s) (at + y * stride + x) o) ⌝ }
+    requires { ⌜ one ≡ 1 ⌝ }
     ensures { λ _. ⌜ now (d .exit) ≡ withBlock (now (d .entry)) to width 2 h (λ (y x : ℕ). oneAt (now (s .entry)) (at + y * stride + x) o t) ⌝ }
 {
     let mut y = 0;
     while y < h {
         one_pair(s, at + y * stride, o, t, d, to + y * width);
-        y += 1;
+        y += one;
     }
 }
 
-pub fn one_block(
+// A block of 4 or 2 columns, its rows one after the other.
+pub fn one_narrow(
     s: &[u16],
     at: usize,
     stride: usize,
@@ -481,22 +485,18 @@ pub fn one_block(
     o: Offsets,
     t: Taps,
     d: &mut [u16],
-    to: usize,
-    width: usize,
+    one: usize,
 )
-    requires { ⌜ (at + h * stride + n + o .p1 ≤ length (now s) + stride) × (to + h * width + n ≤ length (now d) + width) × (isRowWidth n ≡ true) × (n ≤ 8) × Ordered o × Small t ⌝ }
+    requires { ⌜ (at + h * stride + n + o .p1 ≤ length (now s) + stride) × (h * n ≤ length (now d)) × (isRowWidth n ≡ true) × (n < 8) × Ordered o × Small t ⌝ }
     requires { ⌜ ((y x : ℕ) → y < h → x < n → Bounded 1023 (now s) (at + y * stride + x) o) ⌝ }
-    ensures { λ _. ⌜ now (d .exit) ≡ withBlock (now (d .entry)) to width n h (λ (y x : ℕ). oneAt (now (s .entry)) (at + y * stride + x) o t) ⌝ }
+    requires { ⌜ one ≡ 1 ⌝ }
+    ensures { λ _. ⌜ now (d .exit) ≡ withBlock (now (d .entry)) 0 n n h (λ (y x : ℕ). oneAt (now (s .entry)) (at + y * stride + x) o t) ⌝ }
 {
     if n == 4 {
-        one_quads(&*s, at, stride, h, o, t, d, to, width);
+        one_quads(s, at, stride, h, o, t, d, 0, n, one);
         return;
     }
-    if n == 2 {
-        one_pairs(&*s, at, stride, h, o, t, d, to, width);
-        return;
-    }
-    one_octs(&*s, at, stride, h, o, t, d, to, width);
+    one_pairs(s, at, stride, h, o, t, d, 0, n, one);
 }
 
 fn split_oct(s: &[u16], at: usize, o: Offsets, t: Taps, d: &mut [u16], to: usize)

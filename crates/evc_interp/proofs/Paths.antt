@@ -7,7 +7,7 @@ use mathlib.Core.Path.{_≡_, refl, sym, ap, ap₂, subst, _∙_}
 use native.Mathlib.Nat.{add-mul, mul-le-mul-left, div-add-mod', div-lt-iff-lt-mul, mod-lt}
 use native.Mathlib.Omega.{arith}
 use borrow.Author.Tests.{le-ltb, ltb-true, ltb-false}
-use lib.Dec.{T, eqb, ltb, eqb→eq}
+use lib.Dec.{ltb}
 use lib.ListN.{length, getD, drop}
 use Rattle.evc_int.specs.Lists.{withRow, withBlock}
 use Rattle.evc_int.proofs.Lists.{row-fits, length-withBlock, withRow-ext, withRow-join, withBlock-ext, withBlock-in, withBlock-run, columns-step}
@@ -15,7 +15,7 @@ use Rattle.evc_int.proofs.Whole.{Is}
 use Rattle.evc_filter.specs.Filter.{phases, reach, interpolated, rowStage, interpolatedTwice}
 use Rattle.evc_filter.specs.Code.{tapsOf, offsetsOf, Ordered, Small, Bounded, isRowWidth, quarterAt, oneAt, splitAt}
 use Rattle.evc_filter.proofs.Sums.{taps-small, offsets-ordered, first-is, one-is, split-is, quarter-most}
-use Rattle.evc_filter.proofs.Lanes.{eights}
+use Rattle.evc_filter.proofs.Lanes.{eights, by-width}
 use Rattle.evc_plane.specs.Planes.{sideOf}
 use Rattle.evc_plane.specs.declared.PlaneType.{PlaneType}
 use Rattle.evc_plane.specs.declared.PlaneType.the-variants.{Y, UV}
@@ -87,13 +87,13 @@ module _ (k : PlaneType) (s : List ℕ) (at stride w h : ℕ) (horizontal : Bool
       go false l = omega (arith, add-mul h (reach k) stride)
 
   -- n columns from column c on, whose first sample is at i
-  pub one-asks : (phase c n i : ℕ) (d : List ℕ) (o : Offsets) (t : Taps) → o ≡ offsetsOf k (stepOf horizontal stride) → t ≡ tapsOf k phase → phase < phases k → c + n ≤ w → i ≡ at + c → isRowWidth n ≡ true → n ≤ 8
+  pub one-asks : (phase c n i : ℕ) (d : List ℕ) (o : Offsets) (t : Taps) → o ≡ offsetsOf k (stepOf horizontal stride) → t ≡ tapsOf k phase → phase < phases k → c + n ≤ w → i ≡ at + c
       → at + (h + cond horizontal 0 (reach k)) * stride + (w + cond horizontal (reach k) 0) ≤ length s + stride → h * w ≤ length d
-      → ((i + h * stride + n + o .p1 ≤ length s + stride) × (c + h * w + n ≤ length d + w) × (isRowWidth n ≡ true) × (n ≤ 8) × Ordered o × Small t) × ((y x : ℕ) → y < h → x < n → Bounded 1023 s (i + y * stride + x) o)
-  one-asks phase c n i d o t eo et l r e f m a b =
+      → ((i + h * stride + n + o .p1 ≤ length s + stride) × (c + h * w + n ≤ length d + w) × Ordered o × Small t) × ((y x : ℕ) → y < h → x < n → Bounded 1023 s (i + y * stride + x) o)
+  one-asks phase c n i d o t eo et l r e a b =
       let g = ends a in
       rw (eo, et, e) (
-        (omega (arith, last-place k (stepOf horizontal stride)), omega arith, f, m, offsets-ordered k (stepOf horizontal stride), taps-small k phase l),
+        (omega (arith, last-place k (stepOf horizontal stride)), omega arith, offsets-ordered k (stepOf horizontal stride), taps-small k phase l),
         λ y x ly lx. bounded 1023 k s (at + c + y * stride + x) (stepOf horizontal stride) (near-group c n r y x ly lx),
       )
 
@@ -131,15 +131,6 @@ pub record Lanes (n h : ℕ) : Type 0 where
   pub four-or-eight : (lanesOf n h ≡ 4) ⊎ (lanesOf n h ≡ 8)
   pub rows : h * n / lanesOf n h * lanesOf n h ≡ h * n
   pub whole : n ≡ 8 → (lanesOf n h ≡ 8) × (h * n / lanesOf n h ≡ h)
-
--- a width or a height: 2, 4 or a multiple of 8
-by-width : (P : ℕ → Type 0) (n : ℕ) → isRowWidth n ≡ true → P 2 → P 4 → ((m : ℕ) → 8 ≤ m → m % 8 ≡ 0 → P m) → P n
-by-width P n e p2 p4 pm = go (eqb n 4) (eqb n 2) refl refl
-  where
-    go : (a b : Bool) → eqb n 4 ≡ a → eqb n 2 ≡ b → P n
-    go true b f g = subst P (sym (eqb→eq n 4 (subst T (sym f) tt))) p4
-    go false true f g = subst P (sym (eqb→eq n 2 (subst T (sym g) tt))) p2
-    go false false f g = let r = eights n e (λ i. absurd (subst T (ap (λ (n : ℕ). eqb n 4) (sym i) ∙ f) tt)) (λ i. absurd (subst T (ap (λ (n : ℕ). eqb n 2) (sym i) ∙ g) tt)) in pm n (r .0) (r .1)
 
 pub lanes : (n h : ℕ) → isRowWidth n ≡ true → n ≤ 8 → isRowWidth h ≡ true → Lanes n h
 lanes n h en ln eh =

@@ -1,24 +1,38 @@
 -- `evc_filter::taps_of` meets its contract. Assumes nothing.
-use mathlib.Core.Path.{_∙_, sym, ap, subst}
-use Prim.Native.Nat.{_<_}
+use mathlib.Core.Bool.{Bool, true, false, cond}
+use mathlib.Core.Path.{_≡_, _∙_, ap, ap₂}
+use Prim.Native.Nat.{ℕ, _+_, _-_, _<_}
+use native.Mathlib.Omega.{arith}
+use lib.Dec.{ltb}
 use borrow.Author.Needs.{needs}
+use borrow.Author.Tests.{lt-ltb, le-ltb}
 use Rattle.evc_plane.specs.declared.PlaneType.{PlaneType}
+use Rattle.evc_plane.specs.declared.PlaneType.the-variants.{Y, UV}
 use Rattle.evc_filter.specs.Filter.{phases}
 use Rattle.evc_filter.specs.Code.{tapsOf}
 use Rattle.evc_filter.proofs.taps_of.Statement.{statement}
 use Rattle.evc_filter.proofs.taps_of.Tie as tie
 
-taps-l-requires : tie.Need-taps-l-requires
-taps-l-requires c κs = subst (λ (t : PlaneType). c .before .before .args .phase < phases t) (c .enum-told .given .1) (c .before .before .pre)
+few : (k : PlaneType) → phases k < 9
+few Y = omega arith
+few UV = omega arith
 
-taps-c-requires : tie.Need-taps-c-requires
-taps-c-requires c κs = subst (λ (t : PlaneType). c .before .before .args .phase < phases t) (c .enum-told2 .given .1) (c .before .before .pre)
+row-is : (k : PlaneType) (n f : ℕ) → n < phases k → f + 4 ≡ phases k → cond (ltb (f + n) 4) (tapsOf Y (f + n)) (tapsOf UV (f + n - 4)) ≡ tapsOf k n
+row-is Y n f l e =
+    let z : f + n ≡ n = omega arith in
+    ap (λ (b : Bool). cond b (tapsOf Y (f + n)) (tapsOf UV (f + n - 4))) (lt-ltb (f + n) 4 (omega arith)) ∙ ap (tapsOf Y) z
+row-is UV n f l e =
+    let z : f + n - 4 ≡ n = omega arith in
+    ap (λ (b : Bool). cond b (tapsOf Y (f + n)) (tapsOf UV (f + n - 4))) (le-ltb (f + n) 4 (omega arith)) ∙ ap (tapsOf UV) z
 
 returns : tie.Need-returns
-returns c = c .taps-l .ensures ∙ sym (ap (λ (t : PlaneType). tapsOf t (c .before .before .before .args .phase)) (c .before .enum-told .given .1))
-
-returns-2 : tie.Need-returns-2
-returns-2 c = c .taps-c .ensures ∙ sym (ap (λ (t : PlaneType). tapsOf t (c .before .before .before .args .phase)) (c .before .enum-told2 .given .1))
+returns c = let s = c .before .before in c .taps-at .ensures ∙ row-is (s .args .t) (s .args .phase) _ (s .pre) (c .before .first-row .ensures)
 
 pub taps-of-spec : {M : Type 1} → statement M
-taps-of-spec = tie.close (tie.spec (λ c. search needs) taps-l-requires (λ c. search needs) taps-c-requires returns returns-2)
+taps-of-spec =
+    tie.close
+    (tie.spec
+    (λ c κs. search needs)
+    (λ c. let k = few (c .before .args .t) in let l = c .before .pre in record { fits = omega (arith, c .first-row .ensures) })
+    (λ c κs. let k = few (c .before .args .t) in let l = c .before .pre in omega (arith, c .first-row .ensures))
+    returns)

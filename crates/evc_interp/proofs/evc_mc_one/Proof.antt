@@ -4,11 +4,13 @@ use mathlib.Core.Bool.{Bool, true, false, cond}
 use mathlib.Core.Path.{_≡_, refl, sym, ap, _∙_}
 use native.Mathlib.Omega.{arith}
 use borrow.Author.Needs.{needs}
+use mathlib.Core.List.{List}
 use lib.ListN.{length}
 use Rattle.evc_int.specs.Lists.{withBlock}
 use Rattle.evc_int.proofs.Lists.{columns-none, columns-done, row-fits}
 use Rattle.evc_filter.specs.Filter.{interpolated}
-use Rattle.evc_filter.specs.Code.{oneAt, offsetsOf}
+use Rattle.evc_filter.specs.Code.{oneAt, offsetsOf, Ordered, Small, Bounded}
+use Rattle.evc_filter.proofs.Lanes.{as-wide}
 use Rattle.evc_interp.proofs.Paths.{stepOf, one-asks, one-gives, group-step, full}
 use Rattle.evc_interp.proofs.evc_mc_one.Statement.{statement}
 use Rattle.evc_interp.proofs.evc_mc_one.Tie as tie
@@ -34,58 +36,73 @@ either-small false r stride e l = omega arith
 first-row : (s : tie.Start Inv-loop μ-loop) → s .args .at + s .args .w < 18446744073709551616
 first-row s = omega (arith, row-fits (s .args .stride) (s .pre .1 .0 .2))
 
-one-block-requires : tie.Need-one-block-requires Inv-loop μ-loop
-one-block-requires c κs =
-    let p = c .before .before in
+one-narrow-requires : tie.Need-one-narrow-requires Inv-loop μ-loop
+one-narrow-requires c κs =
+    let t = c .before .before in
+    let p = t .before in
     let s = start p in
     let a = s .args in
     let q = s .pre .1 .0 in
     let z : a .at ≡ a .at + 0 = omega arith in
-    let l = c .before .if1 .taken in
-    one-asks (a .t) (a .s .now) (a .at) (a .stride) (a .w) (a .h) (a .across) (s .pre .1 .1) (a .phase) 0 (a .w) (a .at) (a .pred .now) _ _ (o-is p) (p .taps-of .ensures) (q .3) (omega arith) z (q .0) (omega arith) (s .pre .0 .0) (s .pre .0 .1)
+    let r = one-asks (a .t) (a .s .now) (a .at) (a .stride) (a .w) (a .h) (a .across) (s .pre .1 .1) (a .phase) 0 (a .w) (a .at) (a .pred .now) _ _ (o-is p) (p .taps-of .ensures) (q .4) (omega arith) z (s .pre .0 .0) (s .pre .0 .1) in
+    ((r .0 .0, s .pre .0 .1, q .0, t .if1 .taken, r .0 .2, r .0 .3), (r .1, c .unit .ensures))
 
 gives : (p : tie.After-taps-of Inv-loop μ-loop) → let a = start p .args in withBlock (a .pred .now) 0 (a .w) (a .w) (a .h) (λ (y x : ℕ). oneAt (a .s .now) (a .at + y * a .stride + x) (p .before .offsets-of .result) (p .taps-of .result)) ≡ withBlock (a .pred .now) 0 (a .w) (a .w) (a .h) (λ (y x : ℕ). interpolated (a .t) (a .phase) (a .s .now) (a .at + y * a .stride + x) (stepOf (a .across) (a .stride)))
 gives p =
     let s = start p in
     let a = s .args in
-    one-gives (a .t) (a .s .now) (a .at) (a .stride) (a .w) (a .h) (a .across) (s .pre .1 .1) (a .phase) (s .pre .1 .0 .3) (a .pred .now) _ _ (o-is p) (p .taps-of .ensures)
+    one-gives (a .t) (a .s .now) (a .at) (a .stride) (a .w) (a .h) (a .across) (s .pre .1 .1) (a .phase) (s .pre .1 .0 .4) (a .pred .now) _ _ (o-is p) (p .taps-of .ensures)
 
 returns : tie.Need-returns Inv-loop μ-loop
-returns c = let q = c .before .before in q .one-block .ensures ∙ gives (q .before .before .before)
+returns c = let q = c .before .before in q .one-narrow .ensures ∙ gives (q .before .before .before .before)
 
-loop-holds : tie.Need-loop-holds Inv-loop μ-loop
-loop-holds c = let a = start (c .before) .args in (omega arith, refl, refl, sym (columns-none (a .pred .now) 0 (a .w) (a .h) _))
-
-one-block-requires-2 : tie.Need-one-block-requires-2 Inv-loop μ-loop
-one-block-requires-2 c κs =
-    let k = c .before in
-    let l = k .before .loop in
-    let p = k .before .before .before in
+-- eight columns from column cg on
+group : (p : tie.After-taps-of Inv-loop μ-loop) → let a = start p .args in (cg i : ℕ) (d : List ℕ) → cg + 8 ≤ a .w → i ≡ a .at + cg → length d ≡ length (a .pred .now)
+    → ((i + a .h * a .stride + 8 + p .before .offsets-of .result .p1 ≤ length (a .s .now) + a .stride) × (cg + a .h * a .w + 8 ≤ length d + a .w) × Ordered (p .before .offsets-of .result) × Small (p .taps-of .result)) × ((y x : ℕ) → y < a .h → x < 8 → Bounded 1023 (a .s .now) (i + y * a .stride + x) (p .before .offsets-of .result))
+group p cg i d l e m =
     let s = start p in
     let a = s .args in
-    let q = s .pre .1 .0 in
-    let t = k .loop-test .taken in
-    one-asks (a .t) (a .s .now) (a .at) (a .stride) (a .w) (a .h) (a .across) (s .pre .1 .1) (a .phase) (l .cg) 8 (a .at + l .cg) (l .pred) _ _ (o-is p) (p .taps-of .ensures) (q .3) t refl refl (omega arith) (s .pre .0 .0) (let e = l .inv .2 in omega (arith, s .pre .0 .1))
+    one-asks (a .t) (a .s .now) (a .at) (a .stride) (a .w) (a .h) (a .across) (s .pre .1 .1) (a .phase) cg 8 i d _ _ (o-is p) (p .taps-of .ensures) (s .pre .1 .0 .4) l e (s .pre .0 .0) (omega (arith, m, s .pre .0 .1))
+
+eight : (c : tie.Then2 Inv-loop μ-loop) → start (c .before .before) .args .w ≡ 8
+eight c = c .if2 .taken
+
+one-octs-requires : tie.Need-one-octs-requires Inv-loop μ-loop
+one-octs-requires c κs = let p = c .before .before .before in let a = start p .args in let e = eight (c .before) in let z : a .at ≡ a .at + 0 = omega arith in group p 0 (a .at) (a .pred .now) (omega arith) z refl
+
+returns-2 : tie.Need-returns-2 Inv-loop μ-loop
+returns-2 c = let q = c .before .before in let t = q .before .before in as-wide _ _ _ _ _ _ _ _ (eight t) (q .one-octs .ensures) ∙ gives (t .before .before)
+
+loop-holds : tie.Need-loop-holds Inv-loop μ-loop
+loop-holds c = let a = start (c .before .before) .args in (omega arith, refl, refl, sym (columns-none (a .pred .now) 0 (a .w) (a .h) _))
+
+one-octs-requires-2 : tie.Need-one-octs-requires-2 Inv-loop μ-loop
+one-octs-requires-2 c κs =
+    let k = c .before in
+    let l = k .before .loop in
+    let p = k .before .before .before .before in
+    group p (l .cg) (start p .args .at + l .cg) (l .pred) (k .loop-test .taken) refl (l .inv .2)
 
 loop-again : tie.Need-loop-again Inv-loop μ-loop
 loop-again c =
     let q = c .before .before in
     let k = q .before .before in
     let l = k .before .loop in
-    let p = k .before .before .before in
+    let p = k .before .before .before .before in
     let a = start p .args in
     let t = k .loop-test .taken in (
       t,
       (let e = l .inv .1 in omega arith),
-      q .one-block2 .kept .1 .1 .1 .1 .1 .1 .1 .0 ∙ l .inv .2,
-      group-step (λ (i : ℕ). oneAt (a .s .now) i (p .before .offsets-of .result) (p .taps-of .result)) _ _ _ _ _ _ _ _ t (l .inv .3) (q .one-block2 .ensures),
+      q .one-octs2 .kept .1 .1 .1 .1 .1 .1 .0 ∙ l .inv .2,
+      group-step (λ (i : ℕ). oneAt (a .s .now) i (p .before .offsets-of .result) (p .taps-of .result)) _ _ _ _ _ _ _ _ t (l .inv .3) (q .one-octs2 .ensures),
     )
 
-returns-2 : tie.Need-returns-2 Inv-loop μ-loop
-returns-2 c =
+returns-3 : tie.Need-returns-3 Inv-loop μ-loop
+returns-3 c =
     let i = c .before .loop .inv in
-    let e = c .before .before in
+    let e = c .before .before .before in
     let p = e .before in
+    let l = e .if1 .left in
     columns-done _ _ _ _ _ _ (i .3) (i .0) (full _ _ (start p .pre .1 .0 .0) (omega arith) (i .1) (omega arith)) ∙ gives p
 
 pub evc-mc-one-spec : {M : Type 1} → statement M
@@ -95,17 +112,21 @@ evc-mc-one-spec =
     Inv-loop
     μ-loop
     (λ c κs. search needs)
-    (λ c κs. let s = c .before .before .before in either-small (s .args .across) _ (s .args .stride) (c .either .ensures) (s .pre .1 .0 .4))
-    (λ c κs. c .before .before .before .before .pre .1 .0 .3)
-    one-block-requires
-    (λ c. c .before .before .one-block .kept .1 .1 .1 .1 .1 .1 .1 .0)
+    (λ c κs. let s = c .before .before .before in either-small (s .args .across) _ (s .args .stride) (c .either .ensures) (s .pre .1 .0 .5))
+    (λ c κs. c .before .before .before .before .pre .1 .0 .4)
+    (λ c κs. start (c .before .before) .pre .1 .0 .3)
+    one-narrow-requires
+    (λ c. c .before .before .one-narrow .kept .1 .1 .1 .1 .1 .1 .1 .0)
     returns
+    one-octs-requires
+    (λ c. c .before .before .one-octs .kept .1 .1 .1 .1 .1 .1 .0)
+    returns-2
     loop-holds
-    (λ c. record { fits = let i = c .loop .inv .0 in let m = start (c .before .before) .pre .1 .0 .1 in omega arith })
-    (λ c. record { fits = let t = c .loop-test .taken in omega (arith, first-row (start (c .before .before .before))) })
-    one-block-requires-2
-    (λ c. record { fits = let k = c .before .before .before .before in let t = k .loop-test .taken in let m = start (k .before .before .before) .pre .1 .0 .1 in omega arith })
+    (λ c. record { fits = let i = c .loop .inv .0 in let m = start (c .before .before .before) .pre .1 .0 .1 in omega arith })
+    (λ c. record { fits = let t = c .loop-test .taken in omega (arith, first-row (start (c .before .before .before .before))) })
+    one-octs-requires-2
+    (λ c. record { fits = let k = c .before .before .before .before in let t = k .loop-test .taken in let m = start (k .before .before .before .before) .pre .1 .0 .1 in omega arith })
     (λ c. let k = c .before .before .before .before in let t = k .loop-test .taken in omega arith)
     loop-again
     (λ c. c .before .loop .inv .2)
-    returns-2)
+    returns-3)
