@@ -107,17 +107,18 @@ fn less(n: u16, low: u16) -> u16
     if n < low { 0 } else { n - low }
 }
 
-fn at_most_1023(n: u16) -> u16
-    ensures { λ r. ⌜ r ≡ min n 1023 ⌝ }
+fn more(n: u16, by: u16) -> u16
+    ensures { λ r. ⌜ r ≡ min (n + by) 65535 ⌝ }
 {
-    if n > 1023 { 1023 } else { n }
+    if n > 65535 - by { 65535 } else { n + by }
 }
 
-// Rounded down by 4 bits, less the bias, held to 0..1023.
+// Rounded down by 4 bits, less the bias, held to 0..1023. Both ends by a sum that is held to 16 bits: two instructions, where a minimum of four lanes takes three.
 fn finish(n: u16, low: u16) -> u16
+    requires { ⌜ low ≤ 64512 ⌝ }
     ensures { λ r. ⌜ r ≡ finished low n ⌝ }
 {
-    at_most_1023(less(n >> 4, low))
+    less(more(n >> 4, 64512 - low), 64512)
 }
 
 // ---- at a place
@@ -422,7 +423,7 @@ pub fn one_octs(
 {
     let mut y = 0;
     while y < h {
-        one_oct(s, at + y * stride, o, t, d, to + y * width);
+        one_oct(&*s, at + y * stride, o, t, d, to + y * width);
         y += 1;
     }
 }
