@@ -14,7 +14,7 @@ pub const POCS: [u32; 2] = [8, 16];
 fn target(filtered: [bool; 2], side: [u32; 2]) -> Option<&'static Target> {
     match (filtered, side) {
         ([false, false], _) => Some(&WHOLE),
-        (_, [4, 4]) => Some(&SMALL_BLOCK),
+        ([true, true], [4, 4]) => Some(&SMALL_BLOCK),
         ([true, true], [8, 8] | [16, 16] | [64, 64]) => Some(&BLOCK),
         _ => None,
     }
