@@ -272,13 +272,18 @@ fn neighbour_mv(map_mv: &[i16], lidx: usize, flagged: bool, scup: usize, back: u
     }
 }
 
+// A flagged neighbour outside the picture, which a block away from the edges does not have.
 fn flag_outside(b: EvcBlock, avail: u16) -> bool
-    requires { ⌜ Allowed (b .«pic_w») (b .x) (b .w) ⌝ }
     ensures { λ r. ⌜ r ≡ flagOutside b avail ⌝ }
 {
-    (GET_AVAIL_FLAG(avail, AVAIL_BIT_LE) & (b.x == 0))
-        | (GET_AVAIL_FLAG(avail, AVAIL_BIT_UP) & (b.y == 0))
-        | (GET_AVAIL_FLAG(avail, AVAIL_BIT_UP_RI) & ((b.y == 0) | (b.x + b.w == b.pic_w)))
+    let right = has_right(b);
+    if (b.x != 0) & (b.y != 0) & right {
+        false
+    } else {
+        (GET_AVAIL_FLAG(avail, AVAIL_BIT_LE) & (b.x == 0))
+            | (GET_AVAIL_FLAG(avail, AVAIL_BIT_UP) & (b.y == 0))
+            | (GET_AVAIL_FLAG(avail, AVAIL_BIT_UP_RI) & ((b.y == 0) | !right))
+    }
 }
 
 fn maps_short(b: EvcBlock, map_mv: usize, has_col: bool, col_mv: usize) -> bool
@@ -330,25 +335,30 @@ fn candidates(
     let scup = block_scup(b);
     let w_scu = scu(b.pic_w) as usize;
     let scuw = scu(b.w) as usize;
-    EvcCandidates {
-        left: neighbour_mv(map_mv, lidx, GET_AVAIL_FLAG(avail, AVAIL_BIT_LE), scup, 1),
-        up: neighbour_mv(
-            map_mv,
-            lidx,
-            GET_AVAIL_FLAG(avail, AVAIL_BIT_UP),
-            scup,
-            w_scu,
-        ),
-        up_right: neighbour_mv(
-            map_mv,
-            lidx,
-            GET_AVAIL_FLAG(avail, AVAIL_BIT_UP_RI),
-            scup,
-            w_scu - scuw,
-        ),
-        collocated: collocated_mv(has_col, col_mv, scup, old.collocated),
-        refi: [0; 4],
+    let left = neighbour_mv(&*map_mv, lidx, GET_AVAIL_FLAG(avail, AVAIL_BIT_LE), scup, 1);
+    let up = neighbour_mv(
+        &*map_mv,
+        lidx,
+        GET_AVAIL_FLAG(avail, AVAIL_BIT_UP),
+        scup,
+        w_scu,
+    );
+    let up_right = neighbour_mv(
+        &*map_mv,
+        lidx,
+        GET_AVAIL_FLAG(avail, AVAIL_BIT_UP_RI),
+        scup,
+        w_scu - scuw,
+    );
+    let mut cand = old;
+    cand.left = left;
+    cand.up = up;
+    cand.up_right = up_right;
+    cand.refi = [0; 4];
+    if has_col {
+        cand.collocated = mv_at(&*col_mv, scup, 0);
     }
+    cand
 }
 
 // The candidates by value: the record comes in, and comes back with the number.
