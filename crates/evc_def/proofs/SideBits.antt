@@ -1,10 +1,10 @@
 -- A block's side as the code tests it, by the count of its bits, and as the definition names it. Assumes nothing.
-use mathlib.Core.Bool.{Bool, true, false, not, cond, _&&_, _||_, and-false}
-use mathlib.Core.Path.{_≡_, refl, sym, subst, _∙_}
-use Prim.Native.Nat.{ℕ, zero, suc, _≤_, _<_}
+use mathlib.Core.Bool.{Bool, true, false, not, cond, _&&_, and-false}
+use mathlib.Core.Path.{_≡_, refl, subst}
+use Prim.Native.Nat.{ℕ, zero, suc, _≤_}
 use native.Mathlib.Omega.{arith}
 use lib.Count.{ones, onesIn}
-use lib.Dec.{T, leb, eqb}
+use lib.Dec.{T, leb}
 use borrow.Author.Tests.{leb-true, leb-false, ne-eqb}
 use mir.Facts.{and-yes}
 use Rattle.evc_def.specs.Blocks.{isBlockSide}

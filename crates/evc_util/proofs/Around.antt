@@ -1,12 +1,12 @@
 -- The units around an allowed block: whether the picture has them, and their indices from that of the block's first unit. Assumes nothing.
-use mathlib.Core.Bool.{Bool, true, false, not, cond, _&&_}
+use mathlib.Core.Bool.{Bool, true, false, not, _&&_}
 use mathlib.Core.List.{List}
 use mathlib.Core.Path.{_≡_, refl, sym, ap, subst, _∙_}
-use Prim.Native.Nat.{ℕ, zero, suc, _+_, _-_, _*_, _/_, _%_, _≤_, _<_}
+use Prim.Native.Nat.{ℕ, zero, suc, _+_, _-_, _*_, _≤_, _<_}
 use native.Mathlib.Omega.{arith}
 use native.Mathlib.Nat.{add-mul, suc-mul}
 use borrow.Author.Tests.{le-leb, ltb-true, ltb-false, eqb-true, eqb-false, not-true, not-false}
-use lib.Dec.{T, leb, ltb, eqb}
+use lib.Dec.{T, ltb, eqb}
 use lib.ListN.{getD}
 use Rattle.evc_def.specs.Blocks.{Allowed}
 use Rattle.evc_def.specs.Tables.{isCoded, isIntra}

@@ -1,7 +1,7 @@
 -- The flags from the values that the code computes. Assumes nothing.
-use mathlib.Core.Bool.{Bool, true, false, cond, _&&_}
+use mathlib.Core.Bool.{Bool, true, false, cond}
 use mathlib.Core.List.{List}
-use mathlib.Core.Path.{_≡_, refl, sym, _∙_}
+use mathlib.Core.Path.{_≡_, sym}
 use Prim.Native.Nat.{ℕ, _+_}
 use Rattle.evc_def.specs.Blocks.{Allowed}
 use Rattle.evc_def.specs.declared.EvcBlock.{EvcBlock}

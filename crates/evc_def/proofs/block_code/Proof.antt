@@ -1,12 +1,9 @@
 -- `evc_def::block_code` meets its contract: each return is at the first check that refuses. Assumes nothing.
 use mathlib.Core.Bool.{Bool, true, false, not, _&&_}
-use mathlib.Core.Path.{_≡_, refl, sym, subst, _∙_}
+use mathlib.Core.Path.{_≡_, sym, _∙_}
 use borrow.Author.Needs.{needs}
 use borrow.Author.Tests.{not-true, not-false}
 use Rattle.evc_int.proofs.Bools.{both-true, and-false-right}
-use Rattle.evc_def.specs.Blocks.{badPicture, badBlock}
-use Rattle.evc_def.specs.Codes.{firstOf, blockChecks}
-use Rattle.evc_def.specs.declared.EvcBlock.{EvcBlock}
 use Rattle.evc_def.proofs.Codes.{refused, passed, none}
 use Rattle.evc_def.proofs.block_code.Statement.{statement}
 use Rattle.evc_def.proofs.block_code.Tie as tie

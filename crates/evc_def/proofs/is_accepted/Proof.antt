@@ -1,7 +1,7 @@
 -- `evc_def::is_accepted` meets its contract. Assumes nothing.
-use mathlib.Core.Bool.{Bool, true, false, not, _&&_, and-true, and-false}
-use mathlib.Core.Path.{_≡_, refl, sym, _∙_}
-use Prim.Native.Nat.{ℕ, _%_, _≤_}
+use mathlib.Core.Bool.{Bool, true, false, not, _&&_, and-false}
+use mathlib.Core.Path.{_≡_, refl, sym}
+use Prim.Native.Nat.{_%_}
 use borrow.Author.Needs.{needs}
 use borrow.Author.Tests.{le-leb}
 use lib.Dec.{leb, eqb}

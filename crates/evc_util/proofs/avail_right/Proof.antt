@@ -7,7 +7,7 @@ use borrow.Author.Needs.{needs}
 use borrow.Author.Tests.{not-true, not-false}
 use Rattle.evc_util.specs.Units.{rightOf, firstRow, below, scup, scuw, scuh, wScu}
 use Rattle.evc_util.specs.Flags.{isInter}
-use Rattle.evc_util.proofs.Units.{scup-below, units-small}
+use Rattle.evc_util.proofs.Units.{scup-below}
 use Rattle.evc_util.proofs.Around.{Unit, right-unit, lower-right-unit, inter-is, found}
 use Rattle.evc_util.proofs.Flags.{no-right, right-flags}
 use Rattle.evc_util.proofs.avail_right.Statement.{statement}

@@ -1,10 +1,8 @@
 -- `evc_util::avail_up` meets its contract. Assumes nothing.
-use mathlib.Core.Bool.{true}
-use mathlib.Core.Path.{_≡_, refl, sym, _∙_}
+use mathlib.Core.Path.{refl}
 use Prim.Native.Nat.{_+_, _-_, _<_, _≤_}
 use native.Mathlib.Omega.{arith}
 use borrow.Author.Needs.{needs}
-use Rattle.evc_def.specs.Blocks.{Allowed}
 use Rattle.evc_util.specs.Units.{rightOf, above, xScu, scup, scuw, wScu}
 use Rattle.evc_util.proofs.Around.{Unit, positive, apart-0, row-before, up-unit, right-up-unit, up-left-unit, up-right-unit, inter-is, not-intra-is}
 use Rattle.evc_util.proofs.Flags.{no-up, up-flags}

@@ -1,8 +1,8 @@
 -- `evc_util::candidates` meets its contract. Assumes nothing.
 use mathlib.Core.Bool.{Bool, true, false, cond}
 use mathlib.Core.List.{List, [], _∷_}
-use mathlib.Core.Path.{_≡_, refl, sym, ap, _∙_}
-use Prim.Native.Nat.{ℕ, _+_, _-_, _*_, _/_, _≤_}
+use mathlib.Core.Path.{_≡_, sym, _∙_}
+use Prim.Native.Nat.{ℕ, _+_, _-_, _*_, _≤_}
 use native.Mathlib.Omega.{arith}
 use borrow.Author.Needs.{needs}
 use lib.IntN.{ℤ, pos}
@@ -12,7 +12,7 @@ use Rattle.evc_def.specs.Tables.{isBit}
 use Rattle.evc_def.specs.declared.EvcBlock.{EvcBlock}
 use Rattle.evc_def.specs.declared.EvcMv.{EvcMv}
 use Rattle.evc_util.specs.Units.{wScu, scup, scuw, mvLen, mvAt}
-use Rattle.evc_util.specs.Candidates.{neighbour, flagOutside, candidates}
+use Rattle.evc_util.specs.Candidates.{neighbour, candidates}
 use Rattle.evc_util.specs.declared.EvcCandidates.{EvcCandidates}
 use Rattle.evc_util.proofs.Reach.{map-reaches, col-reaches, left-before, up-before, up-right-before, same-neighbour}
 use Rattle.evc_util.proofs.candidates.Statement.{statement}

@@ -1,5 +1,5 @@
 -- `evc_util::motion_code` meets its contract: 1, 2, then 3, 4, 7. Assumes nothing.
-use mathlib.Core.Bool.{true, false}
+use mathlib.Core.Bool.{false}
 use mathlib.Core.Path.{_≡_, sym, _∙_}
 use borrow.Author.Needs.{needs}
 use borrow.Author.Tests.{lt-ltb, le-ltb}
@@ -7,7 +7,7 @@ use lib.Dec.{ltb}
 use Rattle.evc_def.specs.Codes.{firstOf, blockChecks}
 use Rattle.evc_def.proofs.Codes.{refused, passed, none, stops, goes-on}
 use Rattle.evc_def.proofs.Blocks.{allowed-block}
-use Rattle.evc_util.specs.Candidates.{mapsShort, flagOutside}
+use Rattle.evc_util.specs.Candidates.{mapsShort}
 use Rattle.evc_util.proofs.motion_code.Statement.{statement}
 use Rattle.evc_util.proofs.motion_code.Tie as tie
 
