@@ -471,14 +471,16 @@ pub fn evc_get_mv_dir(block: EvcBlock, pocs: Pocs, has_col: bool, col_mv: &[i16]
     ensures { λ r. ⌜ r ≡ getMvDir block pocs «has_col» (now («col_mv» .entry)) ⌝ }
 {
     let code = direct_code(block, pocs, has_col, col_mv.len());
-    if code != 0 {
-        return EvcDirect {
-            code,
-            mv0: EvcMv { x: 0, y: 0 },
-            mv1: EvcMv { x: 0, y: 0 },
-        };
+    // One record that is filled, since two that meet go back through memory.
+    let mut direct = EvcDirect {
+        code,
+        mv0: EvcMv { x: 0, y: 0 },
+        mv1: EvcMv { x: 0, y: 0 },
+    };
+    if code == 0 {
+        let scup = block_scup(block);
+        let mv = collocated_mv(has_col, &*col_mv, scup, EvcMv { x: 0, y: 0 });
+        direct = direct_vectors(pocs, mv);
     }
-    let scup = block_scup(block);
-    let mv = collocated_mv(has_col, col_mv, scup, EvcMv { x: 0, y: 0 });
-    direct_vectors(pocs, mv)
+    direct
 }
