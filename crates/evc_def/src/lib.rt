@@ -240,7 +240,7 @@ fn is_picture_side(n: u32) -> bool
     (4 <= n) & (n <= MAX_PIC_SIZE) & (n % 4 == 0)
 }
 
-// 4, 8, 16, 32 and 64 are the numbers from 4 to 64 with no more than one bit.
+// 4, 8, 16, 32 and 64 are the numbers from 4 to 64 with no more than one bit set.
 pub fn is_block_side(n: u32) -> bool
     ensures { λ r. ⌜ r ≡ isBlockSide n ⌝ }
 {
@@ -263,6 +263,7 @@ pub fn bad_picture(pic_w: u32, pic_h: u32) -> bool
 pub fn bad_block(b: EvcBlock) -> bool
     ensures { λ r. ⌜ r ≡ badBlock b ⌝ }
 {
+    // The places stand together, so that the optimizer makes one test of the two.
     !(is_block_side(b.w)
         & is_block_side(b.h)
         & is_inside(b.pic_w, b.x, b.w)
@@ -270,7 +271,7 @@ pub fn bad_block(b: EvcBlock) -> bool
         & ((b.x % 4 == 0) & (b.y % 4 == 0)))
 }
 
-// Whether no check refuses: most calls pass, by fewer tests. A picture that holds a block is not too small.
+// Whether no check refuses, by fewer tests: a picture that holds a block is not too small.
 fn is_accepted(b: EvcBlock) -> bool
     ensures { λ r. ⌜ r ≡ not (badPicture (b .«pic_w») (b .«pic_h»)) && not (badBlock b) ⌝ }
 {
