@@ -58,6 +58,21 @@ allowed b p q =
       allowed-side (b .«pic_h») (b .y) (b .h) (p₁ .1) (q₃ .1) (q₁ .1),
     )
 
+-- a picture that holds a block is not too small
+pub large-enough : (b : EvcBlock) → badBlock b ≡ false → (4 ≤ b .«pic_w») × (4 ≤ b .«pic_h»)
+unfolding badBlock
+large-enough b q =
+    let q₁ = both (isBlockSide (b .w) && isBlockSide (b .h) && isInside (b .«pic_w») (b .x) (b .w)) (isInside (b .«pic_h») (b .y) (b .h)) q in
+    let q₂ = and-yes (isBlockSide (b .w) && isBlockSide (b .h)) (isInside (b .«pic_w») (b .x) (b .w)) (q₁ .0) in
+    let q₃ = and-yes (isBlockSide (b .w)) (isBlockSide (b .h)) (q₂ .0) in
+    (at-least-4 (b .«pic_w») (b .x) (b .w) (q₃ .0) (q₂ .1), at-least-4 (b .«pic_h») (b .y) (b .h) (q₃ .1) (q₁ .1))
+  where
+    at-least-4 : (size place side : ℕ) → T (isBlockSide side) → T (isInside size place side) → 4 ≤ size
+    at-least-4 size place side s i =
+        let l = side-is side s .0 in
+        let k = leb→le (place + side) size (and-yes (eqb (place % 4) 0) (leb (place + side) size) i .1) in
+        omega arith
+
 pub allowed-block : (b : EvcBlock) → firstOf (blockChecks b) ≡ 0 → Allowed (b .«pic_w») (b .x) (b .w) × Allowed (b .«pic_h») (b .y) (b .h)
 allowed-block b e =
     let f = accepted 1 _ _ (omega arith) e in

@@ -1,14 +1,15 @@
 ghost use mathlib.Core.Path.{_≡_};
 ghost use mathlib.Core.Bool.{not, _&&_};
 ghost use mathlib.Core.List.{[]};
-ghost use Prim.Native.Nat.{ℕ, _*_, _/_, _<_, _^_};
+ghost use Prim.Native.Nat.{ℕ, _+_, _*_, _/_, _<_, _^_};
+ghost use lib.Dec.{leb};
 ghost use lib.ListN.{getD};
 ghost use lib.IntN.{pos, _+ℤ_, _*ℤ_};
 ghost use lib.Signed.{shrZ, _≤ℤ_};
 ghost use mir.Syntax.{w32};
 ghost use mir.Val.{SFits};
 ghost use Rattle.evc_int.specs.Whole.{clip3};
-ghost use Rattle.evc_def.specs.Blocks.{isPictureSide, isBlockSide, isInside, badPicture, badBlock};
+ghost use Rattle.evc_def.specs.Blocks.{isPictureSide, isBlockSide, badPicture, badBlock};
 ghost use Rattle.evc_def.specs.Codes.{firstOf, blockChecks};
 ghost use Rattle.evc_def.specs.Tables.{tblCuDimOffset, tblMcLCoeff, tblMcCCoeff, isBit, isCoded, isIntra};
 
@@ -239,23 +240,18 @@ fn is_picture_side(n: u32) -> bool
     (4 <= n) & (n <= MAX_PIC_SIZE) & (n % 4 == 0)
 }
 
+// 4, 8, 16, 32 and 64 are the numbers from 4 to 64 with no more than one bit set.
 pub fn is_block_side(n: u32) -> bool
     ensures { λ r. ⌜ r ≡ isBlockSide n ⌝ }
 {
-    match n {
-        4 | 8 | 16 | 32 | 64 => true,
-        _ => false,
-    }
+    (4 <= n) & (n <= 64) & (u32::count_ones(n) <= 1)
 }
 
+// The sum is in 64 bits, where it cannot wrap.
 fn is_inside(size: u32, place: u32, side: u32) -> bool
-    ensures { λ r. ⌜ r ≡ isInside size place side ⌝ }
+    ensures { λ r. ⌜ r ≡ leb (place + side) size ⌝ }
 {
-    if side <= size {
-        (place % 4 == 0) & (place <= size - side)
-    } else {
-        false
-    }
+    place as u64 + side as u64 <= size as u64
 }
 
 pub fn bad_picture(pic_w: u32, pic_h: u32) -> bool
@@ -267,21 +263,33 @@ pub fn bad_picture(pic_w: u32, pic_h: u32) -> bool
 pub fn bad_block(b: EvcBlock) -> bool
     ensures { λ r. ⌜ r ≡ badBlock b ⌝ }
 {
+    // The places stand together, so that the optimizer makes one test of the two.
     !(is_block_side(b.w)
         & is_block_side(b.h)
         & is_inside(b.pic_w, b.x, b.w)
-        & is_inside(b.pic_h, b.y, b.h))
+        & is_inside(b.pic_h, b.y, b.h)
+        & ((b.x % 4 == 0) & (b.y % 4 == 0)))
+}
+
+// Whether no check refuses, by fewer tests: a picture that holds a block is not too small.
+fn is_accepted(b: EvcBlock) -> bool
+    ensures { λ r. ⌜ r ≡ not (badPicture (b .«pic_w») (b .«pic_h»)) && not (badBlock b) ⌝ }
+{
+    !bad_block(b)
+        & (b.pic_w <= MAX_PIC_SIZE)
+        & (b.pic_h <= MAX_PIC_SIZE)
+        & ((b.pic_w % 4 == 0) & (b.pic_h % 4 == 0))
 }
 
 // The checks that every call on a block begins with, in rising number.
 pub fn block_code(b: EvcBlock) -> u32
     ensures { λ r. ⌜ r ≡ firstOf (blockChecks b) ⌝ }
 {
+    if is_accepted(b) {
+        return 0;
+    }
     if bad_picture(b.pic_w, b.pic_h) {
         return 1;
     }
-    if bad_block(b) {
-        return 2;
-    }
-    0
+    2
 }

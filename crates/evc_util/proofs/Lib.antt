@@ -1,4 +1,5 @@
 pub mod Units
+pub mod Around
 pub mod Flags
 pub mod Reach
 pub mod Laws

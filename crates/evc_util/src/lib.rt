@@ -1,6 +1,6 @@
 ghost use mathlib.Core.Path.{_≡_};
-ghost use mathlib.Core.Bool.{cond, true, false};
-ghost use lib.Dec.{ltb};
+ghost use mathlib.Core.Bool.{cond, not, true, false, _&&_};
+ghost use lib.Dec.{ltb, eqb};
 ghost use Prim.Native.Nat.{ℕ, _+_, _-_, _*_, _/_, _<_, _≤_, _^_};
 ghost use lib.ListN.{length, getD};
 ghost use lib.IntN.{pos, natAbs, _-ℤ_, _*ℤ_};
@@ -8,10 +8,11 @@ ghost use lib.Signed.{quotZ};
 ghost use Rattle.evc_int.specs.LowBits.{low16};
 ghost use Rattle.evc_def.specs.Blocks.{Allowed};
 ghost use Rattle.evc_def.specs.Codes.{firstOf};
-ghost use Rattle.evc_util.specs.Units.{unitCount, scup, hasUnit, Covers, mvLen, mvAt};
+ghost use Rattle.evc_def.specs.Tables.{isCoded, isIntra};
+ghost use Rattle.evc_util.specs.Units.{unitCount, wScu, scup, scuh, Covers, mvLen, mvAt};
 ghost use Rattle.evc_util.specs.Candidates.{neighbour, flagOutside, mapsShort, motionChecks, candidates, getMotion};
 ghost use Rattle.evc_util.specs.Direct.{pocTooLarge, directChecks, scaledBy, directVectors, getMvDir};
-ghost use Rattle.evc_util.specs.Flags.{unitWord, isInter, isNotIntra, flag, availLeft, availRight, availUp, availInter, availChecks, getAvailInter};
+ghost use Rattle.evc_util.specs.Flags.{flag, availLeft, availRight, availUp, availInter, availChecks, getAvailInter};
 use evc_def::AVAIL_BIT_LE;
 use evc_def::AVAIL_BIT_UP;
 use evc_def::AVAIL_BIT_UP_RI;
@@ -49,36 +50,22 @@ pub struct EvcAvail {
     pub avail: u16,
 }
 
-// A unit outside the picture: intra and not coded, so that it sets no flag.
-const OUTSIDE: u32 = 1 << 15;
-
-// The word of the unit in a column and a row, counted from 1.
-fn scu_word(b: EvcBlock, map_scu: &[u32], column: u32, row: u32) -> MCU
-    requires { ⌜ Covers b (length (now «map_scu»)) ⌝ }
-    ensures { λ r. ⌜ r .0 ≡ cond (hasUnit b column row) (unitWord b (now («map_scu» .entry)) column row) 32768 ⌝ }
+// Whether the unit that lies `back` before an index is coded and not intra. A unit outside the picture is not.
+fn is_inter(map_scu: &[u32], has: bool, scup: usize, back: usize) -> bool
+    requires { ⌜ (has ≡ true → (back ≤ scup) × (scup - back < length (now «map_scu»))) ⌝ }
+    ensures { λ r. ⌜ r ≡ (has && isCoded (getD (now («map_scu» .entry)) (scup - back) 0) && not (isIntra (getD (now («map_scu» .entry)) (scup - back) 0))) ⌝ }
 {
-    let w_scu = scu(b.pic_w);
-    let h_scu = scu(b.pic_h);
-    if (1 <= column) & (column <= w_scu) & (1 <= row) & (row <= h_scu) {
-        let scup = (row - 1) * w_scu + (column - 1);
-        MCU(map_scu[scup as usize])
-    } else {
-        MCU(OUTSIDE)
+    if !has {
+        return false;
     }
+    MCU(map_scu[scup - back]).IS_COD_NIF()
 }
 
-fn is_inter(b: EvcBlock, map_scu: &[u32], column: u32, row: u32) -> bool
-    requires { ⌜ Covers b (length (now «map_scu»)) ⌝ }
-    ensures { λ r. ⌜ r ≡ isInter b (now («map_scu» .entry)) column row ⌝ }
+fn is_not_intra(map_scu: &[u32], scup: usize) -> bool
+    requires { ⌜ scup < length (now «map_scu») ⌝ }
+    ensures { λ r. ⌜ r ≡ not (isIntra (getD (now («map_scu» .entry)) scup 0)) ⌝ }
 {
-    scu_word(b, map_scu, column, row).IS_COD_NIF()
-}
-
-fn is_not_intra(b: EvcBlock, map_scu: &[u32], column: u32, row: u32) -> bool
-    requires { ⌜ Covers b (length (now «map_scu»)) ⌝ }
-    ensures { λ r. ⌜ r ≡ isNotIntra b (now («map_scu» .entry)) column row ⌝ }
-{
-    !scu_word(b, map_scu, column, row).GET_IF()
+    !MCU(map_scu[scup]).GET_IF()
 }
 
 // `bit` where it is set.
@@ -88,44 +75,72 @@ fn flag(set: bool, bit: u16) -> u16
     if set { bit } else { 0 }
 }
 
-fn avail_left(b: EvcBlock, map_scu: &[u32]) -> u16
+// The sums are those of the check, in 64 bits as there, so that they are formed once.
+fn has_right(b: EvcBlock) -> bool
+    ensures { λ r. ⌜ r ≡ not (eqb (b .x + b .w) (b .«pic_w»)) ⌝ }
+{
+    b.x as u64 + b.w as u64 != b.pic_w as u64
+}
+
+fn has_below(b: EvcBlock) -> bool
+    ensures { λ r. ⌜ r ≡ not (eqb (b .y + b .h) (b .«pic_h»)) ⌝ }
+{
+    b.y as u64 + b.h as u64 != b.pic_h as u64
+}
+
+// How many units the maps have from the block's first row to the row below it.
+fn block_rows(b: EvcBlock) -> usize
+    requires { ⌜ Allowed (b .«pic_w») (b .x) (b .w) × Allowed (b .«pic_h») (b .y) (b .h) ⌝ }
+    ensures { λ r. ⌜ (r ≡ scuh b * wScu b) × (r ≤ 4129024) ⌝ }
+{
+    (scu(b.h) * scu(b.pic_w)) as usize
+}
+
+// `first` is the index of the block's first unit, and `down` leads to the row below the block.
+fn avail_left(b: EvcBlock, map_scu: &[u32], first: usize, down: usize) -> u16
     requires { ⌜ Covers b (length (now «map_scu»)) ⌝ }
     requires { ⌜ Allowed (b .«pic_w») (b .x) (b .w) × Allowed (b .«pic_h») (b .y) (b .h) ⌝ }
+    requires { ⌜ (first ≡ scup b) × (down ≡ scuh b * wScu b) × (down ≤ 4129024) ⌝ }
     ensures { λ r. ⌜ (r ≡ availLeft b (now («map_scu» .entry))) × (r ≤ 130) ⌝ }
 {
-    let left = scu(b.x);
-    let row = scu(b.y) + 1;
-    let below = row + scu(b.h);
-    let le = is_inter(b, map_scu, left, row);
-    let lo_le = is_inter(b, map_scu, left, below);
-    flag(le, AVAIL_LE) + flag(le & lo_le, AVAIL_LO_LE)
+    let le = is_inter(&*map_scu, b.x != 0, first, 1);
+    if !le {
+        return 0;
+    }
+    let lo_le = is_inter(&*map_scu, has_below(b), first + down, 1);
+    AVAIL_LE + flag(lo_le, AVAIL_LO_LE)
 }
 
-fn avail_right(b: EvcBlock, map_scu: &[u32]) -> u16
+fn avail_right(b: EvcBlock, map_scu: &[u32], first: usize, down: usize) -> u16
     requires { ⌜ Covers b (length (now «map_scu»)) ⌝ }
     requires { ⌜ Allowed (b .«pic_w») (b .x) (b .w) × Allowed (b .«pic_h») (b .y) (b .h) ⌝ }
+    requires { ⌜ (first ≡ scup b) × (down ≡ scuh b * wScu b) × (down ≤ 4129024) ⌝ }
     ensures { λ r. ⌜ (r ≡ availRight b (now («map_scu» .entry))) × (r ≤ 264) ⌝ }
 {
-    let right = scu(b.x) + 1 + scu(b.w);
-    let row = scu(b.y) + 1;
-    let below = row + scu(b.h);
-    let ri = is_inter(b, map_scu, right, row);
-    let lo_ri = is_inter(b, map_scu, right, below);
-    flag(ri, AVAIL_RI) + flag(ri & lo_ri, AVAIL_LO_RI)
+    let right = first + scu(b.w) as usize;
+    let ri = is_inter(&*map_scu, has_right(b), right, 0);
+    if !ri {
+        return 0;
+    }
+    let lo_ri = is_inter(&*map_scu, has_below(b), right + down, 0);
+    AVAIL_RI + flag(lo_ri, AVAIL_LO_RI)
 }
 
-fn avail_up(b: EvcBlock, map_scu: &[u32]) -> u16
+fn avail_up(b: EvcBlock, map_scu: &[u32], first: usize) -> u16
     requires { ⌜ Covers b (length (now «map_scu»)) ⌝ }
     requires { ⌜ Allowed (b .«pic_w») (b .x) (b .w) × Allowed (b .«pic_h») (b .y) (b .h) ⌝ }
+    requires { ⌜ first ≡ scup b ⌝ }
     ensures { λ r. ⌜ (r ≡ availUp b (now («map_scu» .entry))) × (r ≤ 609) ⌝ }
 {
-    let left = scu(b.x);
-    let scuw = scu(b.w);
-    let above = scu(b.y);
-    let up = is_not_intra(b, map_scu, left + 1, above);
-    let ri_up = is_not_intra(b, map_scu, left + scuw, above);
-    let up_le = is_inter(b, map_scu, left, above);
-    let up_ri = is_inter(b, map_scu, left + 1 + scuw, above);
+    if b.y == 0 {
+        return 0;
+    }
+    let above = first - scu(b.pic_w) as usize;
+    let scuw = scu(b.w) as usize;
+    let up = is_not_intra(&*map_scu, above);
+    let ri_up = is_not_intra(&*map_scu, above + scuw - 1);
+    let up_le = is_inter(&*map_scu, b.x != 0, above, 1);
+    let up_ri = is_inter(&*map_scu, has_right(b), above + scuw, 0);
     flag(up, AVAIL_UP)
         + flag(ri_up, AVAIL_RI_UP)
         + flag(up_le, AVAIL_UP_LE)
@@ -137,7 +152,11 @@ fn avail_inter(b: EvcBlock, map_scu: &[u32]) -> u16
     requires { ⌜ Allowed (b .«pic_w») (b .x) (b .w) × Allowed (b .«pic_h») (b .y) (b .h) ⌝ }
     ensures { λ r. ⌜ r ≡ availInter b (now («map_scu» .entry)) ⌝ }
 {
-    avail_left(b, map_scu) + avail_up(b, map_scu) + avail_right(b, map_scu)
+    let first = block_scup(b);
+    let down = block_rows(b);
+    let left = avail_left(b, &*map_scu, first, down);
+    let right = avail_right(b, &*map_scu, first, down);
+    left + avail_up(b, &*map_scu, first) + right
 }
 
 fn unit_count(b: EvcBlock) -> usize
@@ -253,13 +272,18 @@ fn neighbour_mv(map_mv: &[i16], lidx: usize, flagged: bool, scup: usize, back: u
     }
 }
 
+// A flagged neighbour outside the picture, which a block away from the edges does not have.
 fn flag_outside(b: EvcBlock, avail: u16) -> bool
-    requires { ⌜ Allowed (b .«pic_w») (b .x) (b .w) ⌝ }
     ensures { λ r. ⌜ r ≡ flagOutside b avail ⌝ }
 {
-    (GET_AVAIL_FLAG(avail, AVAIL_BIT_LE) & (b.x == 0))
-        | (GET_AVAIL_FLAG(avail, AVAIL_BIT_UP) & (b.y == 0))
-        | (GET_AVAIL_FLAG(avail, AVAIL_BIT_UP_RI) & ((b.y == 0) | (b.x + b.w == b.pic_w)))
+    let right = has_right(b);
+    if (b.x != 0) & (b.y != 0) & right {
+        false
+    } else {
+        (GET_AVAIL_FLAG(avail, AVAIL_BIT_LE) & (b.x == 0))
+            | (GET_AVAIL_FLAG(avail, AVAIL_BIT_UP) & (b.y == 0))
+            | (GET_AVAIL_FLAG(avail, AVAIL_BIT_UP_RI) & ((b.y == 0) | !right))
+    }
 }
 
 fn maps_short(b: EvcBlock, map_mv: usize, has_col: bool, col_mv: usize) -> bool
@@ -311,25 +335,30 @@ fn candidates(
     let scup = block_scup(b);
     let w_scu = scu(b.pic_w) as usize;
     let scuw = scu(b.w) as usize;
-    EvcCandidates {
-        left: neighbour_mv(map_mv, lidx, GET_AVAIL_FLAG(avail, AVAIL_BIT_LE), scup, 1),
-        up: neighbour_mv(
-            map_mv,
-            lidx,
-            GET_AVAIL_FLAG(avail, AVAIL_BIT_UP),
-            scup,
-            w_scu,
-        ),
-        up_right: neighbour_mv(
-            map_mv,
-            lidx,
-            GET_AVAIL_FLAG(avail, AVAIL_BIT_UP_RI),
-            scup,
-            w_scu - scuw,
-        ),
-        collocated: collocated_mv(has_col, col_mv, scup, old.collocated),
-        refi: [0; 4],
+    let left = neighbour_mv(&*map_mv, lidx, GET_AVAIL_FLAG(avail, AVAIL_BIT_LE), scup, 1);
+    let up = neighbour_mv(
+        &*map_mv,
+        lidx,
+        GET_AVAIL_FLAG(avail, AVAIL_BIT_UP),
+        scup,
+        w_scu,
+    );
+    let up_right = neighbour_mv(
+        &*map_mv,
+        lidx,
+        GET_AVAIL_FLAG(avail, AVAIL_BIT_UP_RI),
+        scup,
+        w_scu - scuw,
+    );
+    let mut cand = old;
+    cand.left = left;
+    cand.up = up;
+    cand.up_right = up_right;
+    cand.refi = [0; 4];
+    if has_col {
+        cand.collocated = mv_at(&*col_mv, scup, 0);
     }
+    cand
 }
 
 // The candidates by value: the record comes in, and comes back with the number.
@@ -442,14 +471,16 @@ pub fn evc_get_mv_dir(block: EvcBlock, pocs: Pocs, has_col: bool, col_mv: &[i16]
     ensures { λ r. ⌜ r ≡ getMvDir block pocs «has_col» (now («col_mv» .entry)) ⌝ }
 {
     let code = direct_code(block, pocs, has_col, col_mv.len());
-    if code != 0 {
-        return EvcDirect {
-            code,
-            mv0: EvcMv { x: 0, y: 0 },
-            mv1: EvcMv { x: 0, y: 0 },
-        };
+    // One record that is filled, since two that meet go back through memory.
+    let mut direct = EvcDirect {
+        code,
+        mv0: EvcMv { x: 0, y: 0 },
+        mv1: EvcMv { x: 0, y: 0 },
+    };
+    if code == 0 {
+        let scup = block_scup(block);
+        let mv = collocated_mv(has_col, &*col_mv, scup, EvcMv { x: 0, y: 0 });
+        direct = direct_vectors(pocs, mv);
     }
-    let scup = block_scup(block);
-    let mv = collocated_mv(has_col, col_mv, scup, EvcMv { x: 0, y: 0 });
-    direct_vectors(pocs, mv)
+    direct
 }

@@ -6,7 +6,7 @@ use Rattle.evc_util.proofs.avail_inter.Tie as tie
 
 returns : tie.Need-returns
 unfolding availInter
-returns c = cc (c .before .before .avail-left .ensures .0, c .before .avail-up .ensures .0, c .avail-right .ensures .0)
+returns c = cc (c .before .before .avail-left .ensures .0, c .avail-up .ensures .0, c .before .avail-right .ensures .0)
 
 pub avail-inter-spec : {M : Type 1} → statement M
 avail-inter-spec =
@@ -14,7 +14,9 @@ avail-inter-spec =
     (tie.spec
     (λ c κs. search needs)
     (λ c κs. search needs)
-    (λ c. search needs)
     (λ c κs. search needs)
+    (λ c κs. search needs)
+    (λ c κs. search needs)
+    (λ c. search needs)
     (λ c. search needs)
     returns)

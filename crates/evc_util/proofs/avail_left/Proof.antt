@@ -1,36 +1,88 @@
 -- `evc_util::avail_left` meets its contract. Assumes nothing.
-use borrow.Author.Needs.{needs}
+use mathlib.Core.Bool.{true, not}
+use mathlib.Core.Path.{_≡_, sym, _∙_}
+use Prim.Native.Nat.{_+_, _-_, _*_}
 use native.Mathlib.Omega.{arith}
-use Rattle.evc_util.proofs.Flags.{left-flags}
+use borrow.Author.Needs.{needs}
+use borrow.Author.Tests.{not-true, not-false}
+use lib.Dec.{eqb}
+use Rattle.evc_util.specs.Units.{leftOf, firstRow, below, scup, scuh, wScu}
+use Rattle.evc_util.specs.Flags.{isInter}
+use Rattle.evc_util.proofs.Units.{scup-below}
+use Rattle.evc_util.proofs.Around.{Unit, apart-0, left-unit, lower-left-unit, inter-is, found}
+use Rattle.evc_util.proofs.Flags.{no-left, left-flags}
 use Rattle.evc_util.proofs.avail_left.Statement.{statement}
 use Rattle.evc_util.proofs.avail_left.Tie as tie
 
+is-inter-requires : tie.Need-is-inter-requires
+is-inter-requires c κs =
+    let s = c .before .before in
+    let p = s .pre .1 .0 in
+    λ t. let l = apart-0 (s .args .b .x) t in
+    let k = left-unit (s .args .b) (p .0) (p .1) .index-low t in
+    (omega arith, omega arith)
+
+left-is : (c : tie.After-is-inter) → let s = c .before .before .before in c .is-inter .result ≡ isInter (s .args .b) (s .args .map-scu .now) (leftOf (s .args .b)) (firstRow (s .args .b))
+left-is c =
+    let s = c .before .before .before in
+    let p = s .pre .1 .0 in
+    inter-is (s .args .b) (s .args .map-scu .now) _ (left-unit (s .args .b) (p .0) (p .1)) _ _ (rw (s .pre .1 .1 .0)) (c .is-inter .ensures)
+
 returns : tie.Need-returns
 returns c =
-    let f = c .before in
-    let lo = f .before in
-    let le = lo .before in
-    let h = le .before in
-    let y = h .before in
-    let x = y .before in
-    let a = x .before .before .args in (
-      left-flags (a .b) (a .map-scu .now) _ _ 0 _ (x .scu .ensures) (y .scu2 .ensures) (h .scu3 .ensures) _ _ _ _
-          (le .is-inter .ensures) (lo .is-inter2 .ensures) (f .flag .ensures .0) (c .flag2 .ensures .0),
-      let m = f .flag .ensures .1 in let n = c .flag2 .ensures .1 in omega arith,
+    let k = c .before in
+    let s = k .before .before .before in
+    (no-left (s .args .b) (s .args .map-scu .now) (sym (left-is k) ∙ not-true _ (c .if1 .taken)), omega arith)
+
+-- the picture has the unit that was found
+there : (c : tie.Else1) → not (eqb (c .before .before .before .before .args .b .x) 0) ≡ true
+there c = found _ _ _ _ (c .before .is-inter .ensures) (not-false _ (c .if1 .left))
+
+lower : (c : tie.After-has-below) → let b = c .before .before .before .before .before .args .b in Unit b (leftOf b) (below b) (scup b + scuh b * wScu b - 1) (c .has-below .result)
+lower c =
+    let e = c .before in
+    let s = e .before .before .before .before in
+    let p = s .pre .1 .0 in
+    rw (c .has-below .ensures) (lower-left-unit (s .args .b) (p .0) (p .1) (there e))
+
+add-is-inter : tie.Need-add-is-inter
+add-is-inter c =
+    let s = c .before .before .before .before .before in
+    let p = s .pre .1 .0 in
+    let l = scup-below (s .args .b) (p .0) (p .1) in
+    record { fits = omega arith }
+
+is-inter-requires-2 : tie.Need-is-inter-requires-2
+is-inter-requires-2 c κs =
+    let e = c .before in
+    let s = e .before .before .before .before in
+    λ t. let l = apart-0 (s .args .b .x) (there e) in
+    let k = lower c .index-low t in
+    (omega arith, omega arith)
+
+returns-2 : tie.Need-returns-2
+returns-2 c =
+    let i = c .before in
+    let h = i .before in
+    let e = h .before in
+    let s = e .before .before .before .before in
+    let n = s .pre .1 .1 in
+    let b = s .args .b in
+    let map = s .args .map-scu .now in (
+      left-flags b map (sym (left-is (e .before)) ∙ not-false _ (e .if1 .left)) _ _
+          (inter-is b map _ (lower h) _ _ (rw (n .0, n .1)) (i .is-inter2 .ensures)) (c .flag .ensures .0),
+      let f = c .flag .ensures .1 in omega arith,
     )
 
 pub avail-left-spec : {M : Type 1} → statement M
 avail-left-spec =
     tie.close
     (tie.spec
+    is-inter-requires
+    returns
     (λ c κs. search needs)
-    (λ c κs. search needs)
-    (λ c. search needs)
-    (λ c κs. search needs)
-    (λ c. search needs)
-    (λ c κs. search needs)
-    (λ c κs. search needs)
-    (λ c κs. search needs)
+    add-is-inter
+    is-inter-requires-2
     (λ c κs. search needs)
     (λ c. search needs)
-    returns)
+    returns-2)

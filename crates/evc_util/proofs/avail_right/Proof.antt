@@ -1,23 +1,88 @@
 -- `evc_util::avail_right` meets its contract. Assumes nothing.
-use borrow.Author.Needs.{needs}
+use mathlib.Core.Bool.{true}
+use mathlib.Core.Path.{_≡_, sym, _∙_}
+use Prim.Native.Nat.{_+_, _*_}
 use native.Mathlib.Omega.{arith}
-use Rattle.evc_util.proofs.Flags.{right-flags}
+use borrow.Author.Needs.{needs}
+use borrow.Author.Tests.{not-true, not-false}
+use Rattle.evc_util.specs.Units.{rightOf, firstRow, below, scup, scuw, scuh, wScu}
+use Rattle.evc_util.specs.Flags.{isInter}
+use Rattle.evc_util.proofs.Units.{scup-below}
+use Rattle.evc_util.proofs.Around.{Unit, right-unit, lower-right-unit, inter-is, found}
+use Rattle.evc_util.proofs.Flags.{no-right, right-flags}
 use Rattle.evc_util.proofs.avail_right.Statement.{statement}
 use Rattle.evc_util.proofs.avail_right.Tie as tie
 
+abbrev start : tie.After-scu → tie.Start
+start c = c .before .before
+
+beside : (c : tie.After-has-right) → let b = start (c .before) .args .b in Unit b (rightOf b) (firstRow b) (scup b + scuw b) (c .has-right .result)
+beside c =
+    let s = start (c .before) in
+    let p = s .pre .1 .0 in
+    rw (c .has-right .ensures) (right-unit (s .args .b) (p .0) (p .1))
+
+add-right : tie.Need-add-right
+add-right c =
+    let s = start c in
+    let p = s .pre .1 .0 in
+    let l = scup-below (s .args .b) (p .0) (p .1) in
+    record { fits = omega (arith, c .scu .ensures) }
+
+is-inter-requires : tie.Need-is-inter-requires
+is-inter-requires c κs = λ t. let k = beside c .index-low t in (omega arith, omega (arith, c .before .scu .ensures))
+
+right-is : (c : tie.After-is-inter) → let s = start (c .before .before) in c .is-inter .result ≡ isInter (s .args .b) (s .args .map-scu .now) (rightOf (s .args .b)) (firstRow (s .args .b))
+right-is c =
+    let w = c .before .before in
+    let s = start w in
+    inter-is (s .args .b) (s .args .map-scu .now) _ (beside (c .before)) _ _ (omega (arith, w .scu .ensures)) (c .is-inter .ensures)
+
 returns : tie.Need-returns
 returns c =
-    let f = c .before in
-    let lo = f .before in
-    let ri = lo .before in
-    let h = ri .before in
-    let y = h .before in
-    let w = y .before in
-    let x = w .before in
-    let a = x .before .before .args in (
-      right-flags (a .b) (a .map-scu .now) _ _ _ _ (x .scu .ensures) (y .scu3 .ensures) (w .scu2 .ensures) (h .scu4 .ensures) _ _ _ _
-          (ri .is-inter .ensures) (lo .is-inter2 .ensures) (f .flag .ensures .0) (c .flag2 .ensures .0),
-      let m = f .flag .ensures .1 in let n = c .flag2 .ensures .1 in omega arith,
+    let k = c .before in
+    let s = start (k .before .before) in
+    (no-right (s .args .b) (s .args .map-scu .now) (sym (right-is k) ∙ not-true _ (c .if1 .taken)), omega arith)
+
+-- the picture has the unit that was found
+there : (c : tie.Else1) → c .before .before .has-right .result ≡ true
+there c = found _ _ _ _ (c .before .is-inter .ensures) (not-false _ (c .if1 .left))
+
+lower : (c : tie.After-has-below) → let b = start (c .before .before .before .before) .args .b in Unit b (rightOf b) (below b) (scup b + scuw b + scuh b * wScu b) (c .has-below .result)
+lower c =
+    let e = c .before in
+    let r = e .before .before in
+    let s = start (r .before) in
+    let p = s .pre .1 .0 in
+    rw (c .has-below .ensures) (lower-right-unit (s .args .b) (p .0) (p .1) (sym (r .has-right .ensures) ∙ there e))
+
+add-is-inter : tie.Need-add-is-inter
+add-is-inter c =
+    let w = c .before .before .before .before in
+    let s = start w in
+    let p = s .pre .1 .0 in
+    let l = scup-below (s .args .b) (p .0) (p .1) in
+    record { fits = omega (arith, w .scu .ensures) }
+
+is-inter-requires-2 : tie.Need-is-inter-requires-2
+is-inter-requires-2 c κs =
+    let w = c .before .before .before .before in
+    let n = start w .pre .1 .1 in
+    λ t. let k = lower c .index-low t in (omega arith, omega (arith, w .scu .ensures))
+
+returns-2 : tie.Need-returns-2
+returns-2 c =
+    let i = c .before in
+    let h = i .before in
+    let e = h .before in
+    let w = e .before .before .before in
+    let s = start w in
+    let n = s .pre .1 .1 in
+    let b = s .args .b in
+    let map = s .args .map-scu .now in (
+      right-flags b map (sym (right-is (e .before)) ∙ not-false _ (e .if1 .left)) _ _
+          (inter-is b map _ (lower h) _ _ (omega (arith, w .scu .ensures)) (i .is-inter2 .ensures)) (c .flag .ensures .0),
+      let f = c .flag .ensures .1 in omega arith,
     )
 
 pub avail-right-spec : {M : Type 1} → statement M
@@ -26,15 +91,13 @@ avail-right-spec =
     (tie.spec
     (λ c κs. search needs)
     (λ c. search needs)
+    add-right
+    (λ c κs. search needs)
+    is-inter-requires
+    returns
+    (λ c κs. search needs)
+    add-is-inter
+    is-inter-requires-2
     (λ c κs. search needs)
     (λ c. search needs)
-    (λ c κs. search needs)
-    (λ c. search needs)
-    (λ c κs. search needs)
-    (λ c. search needs)
-    (λ c κs. search needs)
-    (λ c κs. search needs)
-    (λ c κs. search needs)
-    (λ c κs. search needs)
-    (λ c. search needs)
-    returns)
+    returns-2)

@@ -1,30 +1,101 @@
 -- `evc_util::avail_up` meets its contract. Assumes nothing.
-use borrow.Author.Needs.{needs}
+use mathlib.Core.Path.{refl}
+use Prim.Native.Nat.{_+_, _-_, _<_, _≤_}
 use native.Mathlib.Omega.{arith}
-use Rattle.evc_util.proofs.Flags.{up-flags}
+use borrow.Author.Needs.{needs}
+use Rattle.evc_util.specs.Units.{rightOf, above, xScu, scup, scuw, wScu}
+use Rattle.evc_util.proofs.Around.{Unit, positive, apart-0, row-before, up-unit, right-up-unit, up-left-unit, up-right-unit, inter-is, not-intra-is}
+use Rattle.evc_util.proofs.Flags.{no-up, up-flags}
 use Rattle.evc_util.proofs.avail_up.Statement.{statement}
 use Rattle.evc_util.proofs.avail_up.Tie as tie
 
+abbrev start : tie.Else1 → tie.Start
+start e = e .before .before .before
+
 returns : tie.Need-returns
 returns c =
+    let s = c .before .before .before in
+    let p = s .pre .1 .0 in
+    (no-up (s .args .b) (s .args .map-scu .now) (p .0) (p .1) (c .if1 .taken), omega arith)
+
+not-first : (e : tie.Else1) → 0 < start e .args .b .y
+not-first e = positive (start e .args .b .y) (e .if1 .left)
+
+row : (e : tie.Else1) → wScu (start e .args .b) + xScu (start e .args .b) ≤ scup (start e .args .b)
+row e = let p = start e .pre .1 .0 in row-before (start e .args .b) (p .0) (p .1) (not-first e)
+
+sub-above : tie.Need-sub-above
+sub-above c = let e = c .before in omega (arith, row e, c .scu .ensures)
+
+is-not-intra-requires : tie.Need-is-not-intra-requires
+is-not-intra-requires c κs =
+    let w = c .before in
+    let e = w .before in
+    let p = start e .pre .1 .0 in
+    let u = up-unit (start e .args .b) (p .0) (p .1) (not-first e) .index-low refl in
+    omega (arith, w .scu .ensures)
+
+is-not-intra-requires-2 : tie.Need-is-not-intra-requires-2
+is-not-intra-requires-2 c κs =
+    let k = c .before in
+    let w = k .before in
+    let e = w .before in
+    let p = start e .pre .1 .0 in
+    let u = right-up-unit (start e .args .b) (p .0) (p .1) (not-first e) .index-low refl in
+    omega (arith, w .scu .ensures, k .scu2 .ensures)
+
+is-inter-requires : tie.Need-is-inter-requires
+is-inter-requires c κs =
+    let w = c .before .before .before .before in
+    let e = w .before in
+    let p = start e .pre .1 .0 in
+    λ t. let u = up-left-unit (start e .args .b) (p .0) (p .1) (not-first e) .index-low t in
+    let l = apart-0 (start e .args .b .x) t in
+    let r = row e in
+    (omega (arith, w .scu .ensures), omega (arith, w .scu .ensures))
+
+upper-right : (c : tie.After-has-right) → let b = start (c .before .before .before .before .before .before .before) .args .b in Unit b (rightOf b) (above b) (scup b - wScu b + scuw b) (c .has-right .result)
+upper-right c =
+    let e = c .before .before .before .before .before .before .before in
+    let p = start e .pre .1 .0 in
+    rw (c .has-right .ensures) (up-right-unit (start e .args .b) (p .0) (p .1) (not-first e))
+
+is-inter-requires-2 : tie.Need-is-inter-requires-2
+is-inter-requires-2 c κs =
+    let k = c .before .before .before .before .before in
+    let w = k .before in
+    let e = w .before in
+    λ t. let u = upper-right c .index-low t in (omega arith, omega (arith, w .scu .ensures, k .scu2 .ensures))
+
+returns-2 : tie.Need-returns-2
+returns-2 c =
     let f3 = c .before in
     let f2 = f3 .before in
     let f1 = f2 .before in
     let ur = f1 .before in
-    let ul = ur .before in
-    let ru = ul .before in
+    let r = ur .before in
+    let ul = r .before in
+    let ru = ul .before .before in
     let up = ru .before in
-    let y = up .before in
-    let w = y .before in
-    let x = w .before in
-    let a = x .before .before .args in (
-      up-flags (a .b) (a .map-scu .now) _ _ _ 0 (x .scu .ensures) (y .scu3 .ensures) (w .scu2 .ensures) _ _ _ _ _ _ _ _
-          (up .is-not-intra .ensures) (ru .is-not-intra2 .ensures) (ul .is-inter .ensures) (ur .is-inter2 .ensures)
+    let k = up .before in
+    let w = k .before in
+    let e = w .before in
+    let s = start e in
+    let p = s .pre .1 .0 in
+    let b = s .args .b in
+    let map = s .args .map-scu .now in
+    let n = s .pre .1 .1 in
+    let l = not-first e in (
+      up-flags b map _ _ _ _ _ _ _ _
+          (not-intra-is b map (up-unit b (p .0) (p .1) l) _ _ (omega (arith, w .scu .ensures)) (up .is-not-intra .ensures))
+          (not-intra-is b map (right-up-unit b (p .0) (p .1) l) _ _ (omega (arith, w .scu .ensures, k .scu2 .ensures)) (ru .is-not-intra2 .ensures))
+          (inter-is b map _ (up-left-unit b (p .0) (p .1) l) _ _ (omega (arith, w .scu .ensures)) (ul .is-inter .ensures))
+          (inter-is b map _ (upper-right r) _ _ (omega (arith, w .scu .ensures, k .scu2 .ensures)) (ur .is-inter2 .ensures))
           (f1 .flag .ensures .0) (f2 .flag2 .ensures .0) (f3 .flag3 .ensures .0) (c .flag4 .ensures .0),
-      let i = f1 .flag .ensures .1 in
-          let j = f2 .flag2 .ensures .1 in
-          let k = f3 .flag3 .ensures .1 in
-          let l = c .flag4 .ensures .1 in
+      let f = f1 .flag .ensures .1 in
+          let g = f2 .flag2 .ensures .1 in
+          let i = f3 .flag3 .ensures .1 in
+          let j = c .flag4 .ensures .1 in
           omega arith,
     )
 
@@ -32,22 +103,25 @@ pub avail-up-spec : {M : Type 1} → statement M
 avail-up-spec =
     tie.close
     (tie.spec
+    returns
     (λ c κs. search needs)
+    (λ c. search needs)
+    sub-above
+    (λ c κs. search needs)
+    (λ c. search needs)
+    is-not-intra-requires
+    (λ c. search needs)
+    (λ c. search needs)
+    is-not-intra-requires-2
+    is-inter-requires
+    (λ c κs. search needs)
+    (λ c. search needs)
+    is-inter-requires-2
     (λ c κs. search needs)
     (λ c κs. search needs)
     (λ c. search needs)
     (λ c κs. search needs)
     (λ c. search needs)
     (λ c κs. search needs)
-    (λ c κs. search needs)
     (λ c. search needs)
-    (λ c. search needs)
-    (λ c κs. search needs)
-    (λ c κs. search needs)
-    (λ c κs. search needs)
-    (λ c. search needs)
-    (λ c κs. search needs)
-    (λ c. search needs)
-    (λ c κs. search needs)
-    (λ c. search needs)
-    returns)
+    returns-2)

@@ -1,8 +1,8 @@
 -- `evc_util::candidates` meets its contract. Assumes nothing.
 use mathlib.Core.Bool.{Bool, true, false, cond}
 use mathlib.Core.List.{List, [], _∷_}
-use mathlib.Core.Path.{_≡_, refl, sym, ap, _∙_}
-use Prim.Native.Nat.{ℕ, _+_, _-_, _*_, _/_, _≤_}
+use mathlib.Core.Path.{_≡_, sym, _∙_}
+use Prim.Native.Nat.{ℕ, _+_, _-_, _*_, _≤_}
 use native.Mathlib.Omega.{arith}
 use borrow.Author.Needs.{needs}
 use lib.IntN.{ℤ, pos}
@@ -12,7 +12,7 @@ use Rattle.evc_def.specs.Tables.{isBit}
 use Rattle.evc_def.specs.declared.EvcBlock.{EvcBlock}
 use Rattle.evc_def.specs.declared.EvcMv.{EvcMv}
 use Rattle.evc_util.specs.Units.{wScu, scup, scuw, mvLen, mvAt}
-use Rattle.evc_util.specs.Candidates.{neighbour, flagOutside, candidates}
+use Rattle.evc_util.specs.Candidates.{neighbour, candidates}
 use Rattle.evc_util.specs.declared.EvcCandidates.{EvcCandidates}
 use Rattle.evc_util.proofs.Reach.{map-reaches, col-reaches, left-before, up-before, up-right-before, same-neighbour}
 use Rattle.evc_util.proofs.candidates.Statement.{statement}
@@ -32,6 +32,13 @@ module _ (b : EvcBlock) (lidx avail : ℕ) (map : List ℤ) where
   made : (has : Bool) (col : List ℤ) (old : EvcCandidates) (l u r k : EvcMv) → l ≡ neighbour map lidx (isBit 1 avail) (scup b - 1) → u ≡ neighbour map lidx (isBit 0 avail) (scup b - wScu b) → r ≡ neighbour map lidx (isBit 6 avail) (scup b - wScu b + scuw b) → k ≡ cond has (mvAt col (scup b) 0) (old .collocated) → record { left = l; up = u; «up_right» = r; collocated = k; refi = pos 0 ∷ pos 0 ∷ pos 0 ∷ pos 0 ∷ [] } ≡ candidates b lidx avail map has col old
   unfolding candidates
   made has col old l u r k p q s t = rw (p, q, s, t)
+
+-- the fourth, with the map and without it
+from-map : (has : Bool) (col : List ℤ) (first n : ℕ) (mv old : EvcMv) → has ≡ true → first ≡ n → mv ≡ mvAt col first 0 → mv ≡ cond has (mvAt col n 0) old
+from-map has col first n mv old t e p = p ∙ rw (t, e)
+
+kept : (has : Bool) (mv old : EvcMv) → has ≡ false → old ≡ cond has mv old
+kept has mv old f = rw f
 
 reaches : (k : tie.After-block-scup) → mvLen * k .block-scup .result + mvLen ≤ length (k .before .args .map-mv .now)
 reaches k = map-reaches (k .before .args .b) _ _ _ (k .before .pre .1 .1) _ (k .block-scup .ensures .1)
@@ -64,14 +71,17 @@ neighbour-mv-requires-3 c κs =
           omega (arith, k .block-scup .ensures .0, w .scu .ensures),
     )
 
-collocated-mv-requires : tie.Need-collocated-mv-requires
-collocated-mv-requires c κs =
-    let k = c .before .before .before .before .before .before .before .before in
-    λ t. col-reaches (k .before .args .b) _ _ _ (k .before .pre .1 .1) _ (k .block-scup .ensures .1) t
+abbrev first : tie.After-neighbour-mv3 → tie.After-block-scup
+first r = r .before .before .before .before .before .before .before .before
 
-returns : tie.Need-returns
-returns c =
-    let r = c .before in
+mv-at-requires : tie.Need-mv-at-requires
+mv-at-requires c κs =
+    let k = first (c .before .before) in
+    (omega arith, col-reaches (k .before .args .b) _ _ _ (k .before .pre .1 .1) _ (k .block-scup .ensures .1) (c .if1 .taken))
+
+-- the three neighbours, with any fourth that is the collocated one
+with-fourth : (r : tie.After-neighbour-mv3) (mv : EvcMv) → let a = first r .before .args in mv ≡ cond (a .has-col) (mvAt (a .col-mv .now) (scup (a .b)) 0) (a .old .collocated) → record { left = r .before .before .before .before .neighbour-mv .result; up = r .before .before .neighbour-mv2 .result; «up_right» = r .neighbour-mv3 .result; collocated = mv; refi = pos 0 ∷ pos 0 ∷ pos 0 ∷ pos 0 ∷ [] } ≡ candidates (a .b) (a .lidx) (a .avail) (a .map-mv .now) (a .has-col) (a .col-mv .now) (a .old)
+with-fourth r mv q =
     let u = r .before .before in
     let l = u .before .before in
     let s = l .before .before in
@@ -84,7 +94,17 @@ returns c =
     (left-is (a .b) (a .lidx) (a .avail) (a .map-mv .now) _ _ _ (l .before .GET-AVAIL-FLAG .ensures) e (l .neighbour-mv .ensures))
     (up-is (a .b) (a .lidx) (a .avail) (a .map-mv .now) _ _ _ _ (u .before .GET-AVAIL-FLAG2 .ensures) e (w .scu .ensures) (u .neighbour-mv2 .ensures))
     (up-right-is (a .b) (a .lidx) (a .avail) (a .map-mv .now) (p .0 .0) (up-right-before _ _ (p .0 .0) (p .0 .1) (p .1 .2)) _ _ _ _ _ (r .before .GET-AVAIL-FLAG3 .ensures) e (w .scu .ensures) (s .scu2 .ensures) (r .neighbour-mv3 .ensures))
-    (c .collocated-mv .ensures ∙ rw e)
+    q
+
+returns : tie.Need-returns
+returns c =
+    let t = c .before in
+    let r = t .before .before in
+    let k = first r in
+    with-fourth r _ (from-map _ (k .before .args .col-mv .now) _ _ _ (k .before .args .old .collocated) (t .if1 .taken) (k .block-scup .ensures .0) (c .mv-at .ensures))
+
+returns-2 : tie.Need-returns-2
+returns-2 c = with-fourth (c .before .before) _ (kept _ _ _ (c .if1 .left))
 
 pub candidates-spec : {M : Type 1} → statement M
 candidates-spec =
@@ -102,5 +122,6 @@ candidates-spec =
     (λ c κs. search needs)
     (λ c. search needs)
     neighbour-mv-requires-3
-    collocated-mv-requires
-    returns)
+    mv-at-requires
+    returns
+    returns-2)

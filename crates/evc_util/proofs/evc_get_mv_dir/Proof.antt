@@ -54,13 +54,8 @@ module _ (b : EvcBlock) (p : Pocs) (has : Bool) (col : List ℤ) where
     counts-good : (p .poc ≤ 32767) × (p .poc0 ≤ 32767) × (p .poc1 ≤ 32767) × (p .«list_poc0» ≤ 32767)
     counts-good = counts p (accepted 5 _ _ (omega arith) (accepted 4 _ _ (omega arith) (both-accepted 0 (blockChecks b) _ tt e .1) .1) .0)
 
-returns : tie.Need-returns
-returns c =
-    let a = c .before .before .args in
-    refusal (a .block) (a .pocs) (a .has-col) (a .col-mv .now) _ (c .before .direct-code .ensures) (c .if1 .taken)
-
-accepted-call : (c : tie.Else1) → let a = c .before .before .args in firstOf (directChecks (a .block) (a .pocs) (a .has-col) (length (a .col-mv .now))) ≡ 0
-accepted-call c = sym (c .before .direct-code .ensures) ∙ c .if1 .left
+accepted-call : (c : tie.Then1) → let a = c .before .before .args in firstOf (directChecks (a .block) (a .pocs) (a .has-col) (length (a .col-mv .now))) ≡ 0
+accepted-call c = sym (c .before .direct-code .ensures) ∙ c .if1 .taken
 
 block-scup-requires : tie.Need-block-scup-requires
 block-scup-requires c κs =
@@ -77,14 +72,19 @@ direct-vectors-requires c κs =
     let a = c .before .before .before .before .args in
     counts-good (a .block) (a .pocs) (a .has-col) (a .col-mv .now) (accepted-call (c .before .before))
 
-returns-2 : tie.Need-returns-2
-returns-2 c =
+returns : tie.Need-returns
+returns c =
     let m = c .before in
     let a = m .before .before .before .before .args in
     done (a .block) (a .pocs) (a .has-col) (a .col-mv .now) _ (accepted-call (m .before .before))
     (c .direct-vectors .ensures ∙ ap (directVectors (a .pocs)) (m .collocated-mv .ensures ∙ rw (m .before .block-scup .ensures .0)))
 
+returns-2 : tie.Need-returns-2
+returns-2 c =
+    let a = c .before .before .args in
+    refusal (a .block) (a .pocs) (a .has-col) (a .col-mv .now) _ (c .before .direct-code .ensures) (c .if1 .left)
+
 pub evc-get-mv-dir-spec : {M : Type 1} → statement M
 evc-get-mv-dir-spec =
     tie.close
-    (tie.spec (λ c κs. search needs) returns block-scup-requires collocated-mv-requires direct-vectors-requires returns-2)
+    (tie.spec (λ c κs. search needs) block-scup-requires collocated-mv-requires direct-vectors-requires returns returns-2)

@@ -1,27 +1,27 @@
--- `evc_util::is_inter` meets its contract: the word of a unit outside the picture is not coded. Assumes nothing.
-use mathlib.Core.Bool.{Bool, true, false, not, cond, _&&_}
-use mathlib.Core.List.{List}
-use mathlib.Core.Path.{_≡_, refl, ap, _∙_}
-use Prim.Native.Nat.{ℕ}
+-- `evc_util::is_inter` meets its contract. Assumes nothing.
+use mathlib.Core.Bool.{true}
+use mathlib.Core.Path.{_≡_}
+use Prim.Native.Nat.{_-_, _≤_, _<_}
 use borrow.Author.Needs.{needs}
-use Rattle.evc_def.specs.Tables.{isCoded, isIntra}
-use Rattle.evc_def.specs.declared.EvcBlock.{EvcBlock}
-use Rattle.evc_util.specs.Units.{hasUnit}
-use Rattle.evc_util.specs.Flags.{unitWord, isInter}
+use borrow.Author.Tests.{not-true, not-false}
+use lib.ListN.{length}
 use Rattle.evc_util.proofs.is_inter.Statement.{statement}
 use Rattle.evc_util.proofs.is_inter.Tie as tie
 
-outside : (has : Bool) (word : ℕ) → (isCoded (cond has word 32768) && not (isIntra (cond has word 32768))) ≡ (has && isCoded word && not (isIntra word))
-outside true word = refl
-outside false word = refl
+there : (c : tie.Else1) → c .before .before .args .has ≡ true
+there c = not-false _ (c .if1 .left)
 
-by-word : (b : EvcBlock) (map : List ℕ) (column row word : ℕ) (r : Bool) → word ≡ cond (hasUnit b column row) (unitWord b map column row) 32768 → r ≡ (isCoded word && not (isIntra word)) → r ≡ isInter b map column row
-unfolding isInter
-by-word b map column row word r e f =
-    f ∙ ap (λ (n : ℕ). isCoded n && not (isIntra n)) e ∙ outside (hasUnit b column row) (unitWord b map column row)
+within : (c : tie.Else1) → (c .before .before .args .back ≤ c .before .before .args .scup) × (c .before .before .args .scup - c .before .before .args .back < length (c .before .before .args .map-scu .now))
+within c = c .before .before .pre (there c)
 
 returns : tie.Need-returns
-returns c = by-word _ _ _ _ _ _ (c .before .scu-word .ensures) (c .IS-COD-NIF .ensures)
+returns c = rw (not-true (c .before .before .args .has) (c .if1 .taken))
+
+mul-t7 : tie.Need-mul-t7
+mul-t7 c = let l = within c .1 in search needs
+
+returns-2 : tie.Need-returns-2
+returns-2 c = rw (there (c .before .before)) (c .IS-COD-NIF .ensures)
 
 pub is-inter-spec : {M : Type 1} → statement M
-is-inter-spec = tie.close (tie.spec (λ c κs. search needs) (λ c κs. search needs) returns)
+is-inter-spec = tie.close (tie.spec returns (λ c. within c .0) mul-t7 (λ c. within (c .before) .1) (λ c κs. search needs) returns-2)

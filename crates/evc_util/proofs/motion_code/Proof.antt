@@ -1,14 +1,13 @@
 -- `evc_util::motion_code` meets its contract: 1, 2, then 3, 4, 7. Assumes nothing.
-use mathlib.Core.Bool.{true, false}
+use mathlib.Core.Bool.{false}
 use mathlib.Core.Path.{_≡_, sym, _∙_}
 use borrow.Author.Needs.{needs}
 use borrow.Author.Tests.{lt-ltb, le-ltb}
 use lib.Dec.{ltb}
-use Rattle.evc_def.specs.Blocks.{Allowed}
 use Rattle.evc_def.specs.Codes.{firstOf, blockChecks}
 use Rattle.evc_def.proofs.Codes.{refused, passed, none, stops, goes-on}
 use Rattle.evc_def.proofs.Blocks.{allowed-block}
-use Rattle.evc_util.specs.Candidates.{mapsShort, flagOutside}
+use Rattle.evc_util.specs.Candidates.{mapsShort}
 use Rattle.evc_util.proofs.motion_code.Statement.{statement}
 use Rattle.evc_util.proofs.motion_code.Tie as tie
 
@@ -37,9 +36,6 @@ returns-3 c =
     let l = c .before .before in
     sym (goes-on 0 (blockChecks _) _ tt (block-good (l .before)) ∙ passed _ _ _ (list-good l) ∙ refused _ _ _ (sym (c .before .maps-short .ensures) ∙ c .if3 .taken))
 
-flag-outside-requires : tie.Need-flag-outside-requires
-flag-outside-requires c κs = allowed-block _ (block-good (c .before .before .before)) .0
-
 returns-4 : tie.Need-returns-4
 returns-4 c =
     let m = c .before .before in
@@ -55,4 +51,4 @@ returns-5 c =
 pub motion-code-spec : {M : Type 1} → statement M
 motion-code-spec =
     tie.close
-    (tie.spec (λ c κs. search needs) returns returns-2 maps-short-requires returns-3 flag-outside-requires returns-4 returns-5)
+    (tie.spec (λ c κs. search needs) returns returns-2 maps-short-requires returns-3 (λ c κs. search needs) returns-4 returns-5)
