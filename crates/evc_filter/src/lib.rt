@@ -438,17 +438,15 @@ fn one_quads(
     d: &mut [u16],
     to: usize,
     width: usize,
-    one: usize,
 )
     requires { ⌜ (at + h * stride + 4 + o .p1 ≤ length (now s) + stride) × (to + h * width + 4 ≤ length (now d) + width) × Ordered o × Small t ⌝ }
     requires { ⌜ ((y x : ℕ) → y < h → x < 4 → Bounded 1023 (now s) (at + y * stride + x) o) ⌝ }
-    requires { ⌜ one ≡ 1 ⌝ }
     ensures { λ _. ⌜ now (d .exit) ≡ withBlock (now (d .entry)) to width 4 h (λ (y x : ℕ). oneAt (now (s .entry)) (at + y * stride + x) o t) ⌝ }
 {
     let mut y = 0;
     while y < h {
         one_quad(s, at + y * stride, o, t, d, to + y * width);
-        y += one;
+        y += 1;
     }
 }
 
@@ -462,21 +460,19 @@ fn one_pairs(
     d: &mut [u16],
     to: usize,
     width: usize,
-    one: usize,
 )
     requires { ⌜ (at + h * stride + 2 + o .p1 ≤ length (now s) + stride) × (to + h * width + 2 ≤ length (now d) + width) × Ordered o × Small t ⌝ }
     requires { ⌜ ((y x : ℕ) → y < h → x < 2 → Bounded 1023 (now s) (at + y * stride + x) o) ⌝ }
-    requires { ⌜ one ≡ 1 ⌝ }
     ensures { λ _. ⌜ now (d .exit) ≡ withBlock (now (d .entry)) to width 2 h (λ (y x : ℕ). oneAt (now (s .entry)) (at + y * stride + x) o t) ⌝ }
 {
     let mut y = 0;
     while y < h {
         one_pair(s, at + y * stride, o, t, d, to + y * width);
-        y += one;
+        y += 1;
     }
 }
 
-// A block of 4 or 2 columns, its rows one after the other.
+// A block of 4 or 2 columns, its rows one after the other. Not `n == 4`: with a width that the optimizer knows it widens the loop over the rows.
 pub fn one_narrow(
     s: &[u16],
     at: usize,
@@ -486,18 +482,16 @@ pub fn one_narrow(
     o: Offsets,
     t: Taps,
     d: &mut [u16],
-    one: usize,
 )
     requires { ⌜ (at + h * stride + n + o .p1 ≤ length (now s) + stride) × (h * n ≤ length (now d)) × (isRowWidth n ≡ true) × (n < 8) × Ordered o × Small t ⌝ }
     requires { ⌜ ((y x : ℕ) → y < h → x < n → Bounded 1023 (now s) (at + y * stride + x) o) ⌝ }
-    requires { ⌜ one ≡ 1 ⌝ }
     ensures { λ _. ⌜ now (d .exit) ≡ withBlock (now (d .entry)) 0 n n h (λ (y x : ℕ). oneAt (now (s .entry)) (at + y * stride + x) o t) ⌝ }
 {
-    if n == 4 {
-        one_quads(s, at, stride, h, o, t, d, 0, n, one);
+    if n > 2 {
+        one_quads(s, at, stride, h, o, t, d, 0, n);
         return;
     }
-    one_pairs(s, at, stride, h, o, t, d, 0, n, one);
+    one_pairs(s, at, stride, h, o, t, d, 0, n);
 }
 
 fn split_oct(s: &[u16], at: usize, o: Offsets, t: Taps, d: &mut [u16], to: usize)

@@ -203,7 +203,6 @@ module _ (k : PlaneType) (W H : ℕ) (ori gmv : EvcMv) (w h : ℕ) (s : List ℕ
             width = g .w-side .width;
             narrow = g .w-side .small;
             some = g .h-side .some;
-            low = g .h-side .small;
             height = g .h-side .width;
             high = g .h-side .high;
             dx-phase = phase-small k (gmv .x) _ refl;

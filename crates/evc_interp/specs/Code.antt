@@ -37,7 +37,6 @@ pub record Readable (k : PlaneType) (p : Position) (w h : ℕ) (s : List ℕ) : 
   pub width : isRowWidth w ≡ true
   pub narrow : w ≤ 64
   pub some : 0 < h
-  pub low : h ≤ 64
   pub height : isRowWidth h ≡ true
   pub high : h ≤ sideOf k 64
   pub dx-phase : p .dx < phases k

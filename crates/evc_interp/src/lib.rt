@@ -129,14 +129,14 @@ fn evc_mc_one(
     pred: &mut [u16],
 )
     requires { ⌜ (at + (h + cond across 0 (reach t)) * stride + (w + cond across (reach t) 0) ≤ length (now s) + stride) × (h * w ≤ length (now pred)) ⌝ }
-    requires { ⌜ (isRowWidth w ≡ true) × (w ≤ 64) × (0 < h) × (h ≤ 64) × (phase < phases t) × (stride ≤ 65535) ⌝ }
+    requires { ⌜ (isRowWidth w ≡ true) × (w ≤ 64) × (0 < h) × (phase < phases t) × (stride ≤ 65535) ⌝ }
     requires { ⌜ Within (now s) at stride (w + cond across (reach t) 0) (h + cond across 0 (reach t)) ⌝ }
     ensures { λ _. ⌜ now (pred .exit) ≡ withBlock (now (pred .entry)) 0 w w h (λ (y x : ℕ). interpolated t phase (now (s .entry)) (at + y * stride + x) (cond across 1 stride)) ⌝ }
 {
     let o = evc_filter::offsets_of(t, either(across, 1, stride));
     let taps = evc_filter::taps_of(t, phase);
     if w < 8 {
-        evc_filter::one_narrow(s, at, stride, w, h, o, taps, pred, unit(h));
+        evc_filter::one_narrow(s, at, stride, w, h, o, taps, pred);
         return;
     }
     // Called at two places, the lanes are not built into this function, where their loop is a fifth longer.

@@ -6,15 +6,14 @@ use lib.ListN.{length}
 use Rattle.evc_int.specs.Lists.{withBlock}
 use Rattle.evc_int.proofs.Lists.{row-fits, block-step, block-done}
 use Rattle.evc_filter.specs.Code.{oneAt}
-use Rattle.evc_filter.proofs.Lanes.{as-many}
 use Rattle.evc_filter.proofs.one_quads.Statement.{statement}
 use Rattle.evc_filter.proofs.one_quads.Tie as tie
 
 abbrev Inv-loop : tie.InvT-loop
-Inv-loop s at stride h o t d₀ to width one y₀ d y = (y ≤ h) × (length d ≡ length d₀) × (d ≡ withBlock d₀ to width 4 y (λ (i x : ℕ). oneAt s (at + i * stride + x) o t))
+Inv-loop s at stride h o t d₀ to width y₀ d y = (y ≤ h) × (length d ≡ length d₀) × (d ≡ withBlock d₀ to width 4 y (λ (i x : ℕ). oneAt s (at + i * stride + x) o t))
 
 abbrev μ-loop : tie.MeasureT-loop
-μ-loop s at stride h o t d₀ to width one y₀ d y = h - y
+μ-loop s at stride h o t d₀ to width y₀ d y = h - y
 
 abbrev start : tie.In-loop Inv-loop μ-loop → tie.Start Inv-loop μ-loop
 start c = c .before .before .before .before
@@ -44,18 +43,16 @@ one-quad-requires c κs =
     let k = c .before in
     let p = start k .pre in
     let r = rows k in
-    ((r .0, (let e = k .before .loop .inv .1 in let b = r .1 in omega arith), p .0 .2, p .0 .3), λ x b. p .1 .0 (k .before .loop .y) x (k .loop-test .taken) b)
+    ((r .0, (let e = k .before .loop .inv .1 in let b = r .1 in omega arith), p .0 .2, p .0 .3), λ x b. p .1 (k .before .loop .y) x (k .loop-test .taken) b)
 
 loop-again : tie.Need-loop-again Inv-loop μ-loop
 loop-again c =
     let q = c .before .before in
     let k = q .before .before in
-    let l = k .before .loop in
-    let one : start k .args .one ≡ 1 = start k .pre .1 .1 in
-    let e : l .y + start k .args .one ≡ l .y + 1 = omega arith in (
+    let l = k .before .loop in (
       (let t = k .loop-test .taken in omega arith),
       q .one-quad .kept .1 .1 .1 .1 .0 ∙ l .inv .1,
-      as-many _ _ _ _ _ _ _ _ e (block-step _ _ _ _ _ _ _ _ (l .inv .2) (q .one-quad .ensures)),
+      block-step _ _ _ _ _ _ _ _ (l .inv .2) (q .one-quad .ensures),
     )
 
 returns : tie.Need-returns Inv-loop μ-loop
@@ -73,8 +70,8 @@ one-quads-spec =
     (λ c. record { fits = omega (arith, fits (c .before) .1) })
     (λ c. record { fits = omega (arith, fits (c .before) .1) })
     one-quad-requires
-    (λ c. record { fits = let k = c .before .before .before .before in let l = k .loop-test .taken in let o = start k .pre .1 .1 in let h = start k .fits .h in omega arith })
-    (λ c. let k = c .before .before .before .before in let l = k .loop-test .taken in let o = start k .pre .1 .1 in omega arith)
+    (λ c. record { fits = let k = c .before .before .before .before in let l = k .loop-test .taken in let h = start k .fits .h in omega arith })
+    (λ c. let k = c .before .before .before .before in let l = k .loop-test .taken in omega arith)
     loop-again
     (λ c. c .before .loop .inv .1)
     returns)

@@ -38,23 +38,23 @@ first-row s = omega (arith, row-fits (s .args .stride) (s .pre .1 .0 .2))
 
 one-narrow-requires : tie.Need-one-narrow-requires Inv-loop μ-loop
 one-narrow-requires c κs =
-    let t = c .before .before in
+    let t = c .before in
     let p = t .before in
     let s = start p in
     let a = s .args in
     let q = s .pre .1 .0 in
     let z : a .at ≡ a .at + 0 = omega arith in
-    let r = one-asks (a .t) (a .s .now) (a .at) (a .stride) (a .w) (a .h) (a .across) (s .pre .1 .1) (a .phase) 0 (a .w) (a .at) (a .pred .now) _ _ (o-is p) (p .taps-of .ensures) (q .4) (omega arith) z (s .pre .0 .0) (s .pre .0 .1) in
-    ((r .0 .0, s .pre .0 .1, q .0, t .if1 .taken, r .0 .2, r .0 .3), (r .1, c .unit .ensures))
+    let r = one-asks (a .t) (a .s .now) (a .at) (a .stride) (a .w) (a .h) (a .across) (s .pre .1 .1) (a .phase) 0 (a .w) (a .at) (a .pred .now) _ _ (o-is p) (p .taps-of .ensures) (q .3) (omega arith) z (s .pre .0 .0) (s .pre .0 .1) in
+    ((r .0 .0, s .pre .0 .1, q .0, t .if1 .taken, r .0 .2, r .0 .3), r .1)
 
 gives : (p : tie.After-taps-of Inv-loop μ-loop) → let a = start p .args in withBlock (a .pred .now) 0 (a .w) (a .w) (a .h) (λ (y x : ℕ). oneAt (a .s .now) (a .at + y * a .stride + x) (p .before .offsets-of .result) (p .taps-of .result)) ≡ withBlock (a .pred .now) 0 (a .w) (a .w) (a .h) (λ (y x : ℕ). interpolated (a .t) (a .phase) (a .s .now) (a .at + y * a .stride + x) (stepOf (a .across) (a .stride)))
 gives p =
     let s = start p in
     let a = s .args in
-    one-gives (a .t) (a .s .now) (a .at) (a .stride) (a .w) (a .h) (a .across) (s .pre .1 .1) (a .phase) (s .pre .1 .0 .4) (a .pred .now) _ _ (o-is p) (p .taps-of .ensures)
+    one-gives (a .t) (a .s .now) (a .at) (a .stride) (a .w) (a .h) (a .across) (s .pre .1 .1) (a .phase) (s .pre .1 .0 .3) (a .pred .now) _ _ (o-is p) (p .taps-of .ensures)
 
 returns : tie.Need-returns Inv-loop μ-loop
-returns c = let q = c .before .before in q .one-narrow .ensures ∙ gives (q .before .before .before .before)
+returns c = let q = c .before .before in q .one-narrow .ensures ∙ gives (q .before .before .before)
 
 -- eight columns from column cg on
 group : (p : tie.After-taps-of Inv-loop μ-loop) → let a = start p .args in (cg i : ℕ) (d : List ℕ) → cg + 8 ≤ a .w → i ≡ a .at + cg → length d ≡ length (a .pred .now)
@@ -62,7 +62,7 @@ group : (p : tie.After-taps-of Inv-loop μ-loop) → let a = start p .args in (c
 group p cg i d l e m =
     let s = start p in
     let a = s .args in
-    one-asks (a .t) (a .s .now) (a .at) (a .stride) (a .w) (a .h) (a .across) (s .pre .1 .1) (a .phase) cg 8 i d _ _ (o-is p) (p .taps-of .ensures) (s .pre .1 .0 .4) l e (s .pre .0 .0) (omega (arith, m, s .pre .0 .1))
+    one-asks (a .t) (a .s .now) (a .at) (a .stride) (a .w) (a .h) (a .across) (s .pre .1 .1) (a .phase) cg 8 i d _ _ (o-is p) (p .taps-of .ensures) (s .pre .1 .0 .3) l e (s .pre .0 .0) (omega (arith, m, s .pre .0 .1))
 
 eight : (c : tie.Then2 Inv-loop μ-loop) → start (c .before .before) .args .w ≡ 8
 eight c = c .if2 .taken
@@ -112,9 +112,8 @@ evc-mc-one-spec =
     Inv-loop
     μ-loop
     (λ c κs. search needs)
-    (λ c κs. let s = c .before .before .before in either-small (s .args .across) _ (s .args .stride) (c .either .ensures) (s .pre .1 .0 .5))
-    (λ c κs. c .before .before .before .before .pre .1 .0 .4)
-    (λ c κs. start (c .before .before) .pre .1 .0 .3)
+    (λ c κs. let s = c .before .before .before in either-small (s .args .across) _ (s .args .stride) (c .either .ensures) (s .pre .1 .0 .4))
+    (λ c κs. c .before .before .before .before .pre .1 .0 .3)
     one-narrow-requires
     (λ c. c .before .before .one-narrow .kept .1 .1 .1 .1 .1 .1 .1 .0)
     returns
