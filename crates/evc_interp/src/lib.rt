@@ -110,7 +110,7 @@ fn rows_more(t: PlaneType) -> usize
     }
 }
 
-fn either(first: bool, a: usize, b: usize) -> usize
+fn select(first: bool, a: usize, b: usize) -> usize
     ensures { λ r. ⌜ r ≡ cond first a b ⌝ }
 {
     if first { a } else { b }
@@ -133,7 +133,7 @@ fn evc_mc_one(
     requires { ⌜ Within (now s) at stride (w + cond across (reach t) 0) (h + cond across 0 (reach t)) ⌝ }
     ensures { λ _. ⌜ now (pred .exit) ≡ withBlock (now (pred .entry)) 0 w w h (λ (y x : ℕ). interpolated t phase (now (s .entry)) (at + y * stride + x) (cond across 1 stride)) ⌝ }
 {
-    let o = evc_filter::offsets_of(t, either(across, 1, stride));
+    let o = evc_filter::offsets_of(t, select(across, 1, stride));
     let taps = evc_filter::taps_of(t, phase);
     if w < 8 {
         evc_filter::one_narrow(s, at, stride, w, h, o, taps, pred);
@@ -186,8 +186,8 @@ fn columns(
         n,
         one,
     );
-    let lanes = either(h * n < 8, 4, 8);
-    let width = either(n < 8, lanes, w);
+    let lanes = select(h * n < 8, 4, 8);
+    let width = select(n < 8, lanes, w);
     evc_filter::split_block(
         m,
         0,
@@ -370,7 +370,7 @@ pub fn predict(
         true => evc_mc_nn(t, &*plane, at, stride, w, h, dx, dy, pred),
         false => match across | down {
             true => {
-                let phase = either(across, dx, dy);
+                let phase = select(across, dx, dy);
                 evc_mc_one(t, &*plane, at, stride, across, w, h, phase, pred);
             }
             false => evc_mc_00(&*plane, at, stride, w, h, pred),

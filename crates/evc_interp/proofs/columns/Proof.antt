@@ -18,7 +18,7 @@ rows s = let p = s .pre .1 .0 in lanes (s .args .n) (s .args .h) (p .0) (p .1) (
 abbrev start : tie.After-quarter-block-arg → tie.Start
 start c = c .before .before .before .before .before .before .before .before
 
-abbrev second : tie.After-either → tie.After-quarter-block-arg
+abbrev second : tie.After-select → tie.After-quarter-block-arg
 second c = c .before .before .before .before
 
 quarter-block-requires : tie.Need-quarter-block-requires
@@ -30,8 +30,8 @@ quarter-block-requires c κs =
     (quarter-asks (a .t) (a .s .now) (a .m .now) (a .at) (a .stride) (a .n) (a .h) (a .dx) (p .4) (s .pre .1 .1 .1) (p .1) (p .6) _ _ (c .before .before .before .rows-more .ensures) (c .before .before .before .before .unit .ensures)
     (s .pre .0 .0) (p .0))
 
-some-lanes : (c : tie.After-either) → 0 < c .either .result
-some-lanes c = let s = start (second c) in ⊎-elim (λ e. omega (arith, e, c .either .ensures)) (λ e. omega (arith, e, c .either .ensures)) (rows s .four-or-eight)
+some-lanes : (c : tie.After-select) → 0 < c .select .result
+some-lanes c = let s = start (second c) in ⊎-elim (λ e. omega (arith, e, c .select .ensures)) (λ e. omega (arith, e, c .select .ensures)) (rows s .four-or-eight)
 
 split-block-requires : tie.Need-split-block-requires
 split-block-requires c κs =
@@ -41,11 +41,11 @@ split-block-requires c κs =
     let s = start f in
     let a = s .args in
     let p = s .pre .1 .0 in
-    let r = lanes-rows (a .n) (a .h) (a .w) _ _ (rows s) (p .1) (s .pre .1 .1 .0) (e .either .ensures) (w .either2 .ensures) in
+    let r = lanes-rows (a .n) (a .h) (a .w) _ _ (rows s) (p .1) (s .pre .1 .1 .0) (e .select .ensures) (w .select2 .ensures) in
     rw (c .before .before .offsets-of2 .ensures, c .before .taps-of2 .ensures)
     (split-asks (a .t) (a .s .now) (a .m .now) (a .at) (a .stride) (a .n) (a .h) (a .dx) (p .4) (s .pre .1 .1 .1) (p .1) (p .6) _ _ _ _ (f .before .before .before .rows-more .ensures) (f .before .before .offsets-of .ensures) (f .before .taps-of .ensures)
     (e .before .before .before .quarter-block .ensures) _ _ (r .0) (r .1) (a .pred .now) (a .to) _ (a .dy) _ (p .5) (f .before .before .before .before .unit .ensures)
-    (lanes-room (a .n) (a .h) (a .w) _ _ (rows s) (p .1) (s .pre .1 .1 .0) (e .either .ensures) (w .either2 .ensures) (a .to) _ (s .pre .0 .1)))
+    (lanes-room (a .n) (a .h) (a .w) _ _ (rows s) (p .1) (s .pre .1 .1 .0) (e .select .ensures) (w .select2 .ensures) (a .to) _ (s .pre .0 .1)))
 
 returns : tie.Need-returns
 returns c =
@@ -59,7 +59,7 @@ returns c =
     let p = s .pre .1 .0 in
     q .split-block .ensures
     ∙ split-done (a .t) (a .s .now) (a .m .now) (a .at) (a .stride) (a .n) (a .h) (a .dx) (p .4) (s .pre .1 .1 .1) (p .1) (p .6) _ _ _ _ (f .before .before .before .rows-more .ensures) (f .before .before .offsets-of .ensures) (f .before .taps-of .ensures)
-    (e .before .before .before .quarter-block .ensures) (a .w) _ _ (rows s) (s .pre .1 .1 .0) (e .either .ensures) (w .either2 .ensures) (a .pred .now) (a .to) (a .dy) _ _ (u .before .before .offsets-of2 .ensures) (u .before .taps-of2 .ensures) (p .5)
+    (e .before .before .before .quarter-block .ensures) (a .w) _ _ (rows s) (s .pre .1 .1 .0) (e .select .ensures) (w .select2 .ensures) (a .pred .now) (a .to) (a .dy) _ _ (u .before .before .offsets-of2 .ensures) (u .before .taps-of2 .ensures) (p .5)
 
 pub columns-spec : {M : Type 1} → statement M
 columns-spec =

@@ -26,11 +26,11 @@ abbrev start : tie.After-taps-of Inv-loop μ-loop → tie.Start Inv-loop μ-loop
 start p = p .before .before .before .before .before
 
 o-is : (p : tie.After-taps-of Inv-loop μ-loop) → let a = start p .args in p .before .offsets-of .result ≡ offsetsOf (a .t) (stepOf (a .across) (a .stride))
-o-is p = p .before .offsets-of .ensures ∙ ap (offsetsOf (start p .args .t)) (p .before .before .either .ensures)
+o-is p = p .before .offsets-of .ensures ∙ ap (offsetsOf (start p .args .t)) (p .before .before .select .ensures)
 
-either-small : (b : Bool) (r stride : ℕ) → r ≡ cond b 1 stride → stride ≤ 65535 → r ≤ 65535
-either-small true r stride e l = omega arith
-either-small false r stride e l = omega arith
+select-small : (b : Bool) (r stride : ℕ) → r ≡ cond b 1 stride → stride ≤ 65535 → r ≤ 65535
+select-small true r stride e l = omega arith
+select-small false r stride e l = omega arith
 
 -- the first row lies within
 first-row : (s : tie.Start Inv-loop μ-loop) → s .args .at + s .args .w < 18446744073709551616
@@ -112,7 +112,7 @@ evc-mc-one-spec =
     Inv-loop
     μ-loop
     (λ c κs. search needs)
-    (λ c κs. let s = c .before .before .before in either-small (s .args .across) _ (s .args .stride) (c .either .ensures) (s .pre .1 .0 .4))
+    (λ c κs. let s = c .before .before .before in select-small (s .args .across) _ (s .args .stride) (c .select .ensures) (s .pre .1 .0 .4))
     (λ c κs. c .before .before .before .before .pre .1 .0 .3)
     one-narrow-requires
     (λ c. c .before .before .one-narrow .kept .1 .1 .1 .1 .1 .1 .1 .0)

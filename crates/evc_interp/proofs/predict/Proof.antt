@@ -61,7 +61,7 @@ evc-mc-one-requires c κs =
     let g = s .pre .0 in
     let b = s .args .across in
     let r = one-asks s b refl (one t) in
-    ((r .0, s .pre .1), ((g .width, g .narrow, g .some, chosen b _ _ _ _ (e .either .ensures) (g .dx-phase) (g .dy-phase), g .stride-small), r .1))
+    ((r .0, s .pre .1), ((g .width, g .narrow, g .some, chosen b _ _ _ _ (e .select .ensures) (g .dx-phase) (g .dy-phase), g .stride-small), r .1))
   where
     chosen : (b : Bool) (r x y n : ℕ) → r ≡ cond b x y → x < n → y < n → r < n
     chosen true r x y n e lx ly = omega arith
@@ -79,7 +79,7 @@ returns-2 c =
     let s = t .before .before .before .before in
     let a = s .args in
     let b = a .across in
-    q .evc-mc-one .ensures ∙ one-path (a .t) b _ _ _ (a .plane .now) (a .pred .now) (a .w) (a .h) _ _ (e .either .ensures) ∙ gives s b (not b) refl (one t)
+    q .evc-mc-one .ensures ∙ one-path (a .t) b _ _ _ (a .plane .now) (a .pred .now) (a .w) (a .h) _ _ (e .select .ensures) ∙ gives s b (not b) refl (one t)
 
 returns-3 : tie.Need-returns-3
 unfolding sampleBy
