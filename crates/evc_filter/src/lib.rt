@@ -68,17 +68,25 @@ fn times(t: u16, x: u16, t_max: u16, x_max: u16) -> u16
     t * x
 }
 
-// The tap sum of samples, >> 2, with 5120 more: the first of two stages, and for one direction too,
-// since (sum + 32) >> 6 is ((sum >> 2) + 8) >> 4.
+// The tap sum of samples, >> 2, with 5120 and the rounding more.
+fn rounded_sum(t: Taps, p: u16, q: u16, x: u16, y: u16, rounding: u16) -> u16
+    requires { ⌜ Small t ⌝ }
+    requires { ⌜ (p ≤ 2046) × (q ≤ 2046) × (x ≤ 1023) × (y ≤ 1023) × (rounding ≤ 8) ⌝ }
+    ensures { λ r. ⌜ (r ≡ quarterSum t p q x y + rounding) × (r ≤ 26603 + rounding) ⌝ }
+{
+    (((times(t.a, p, 2, 2046) + (20480 + 4 * rounding) - times(t.b, q, 10, 2046)) >> 1)
+        + times(t.c, x, 32, 1023)
+        + times(t.d, y, 29, 1023))
+        >> 1
+}
+
+// The first of two stages, which does not round. One direction does: (sum + 32) >> 6 is ((sum >> 2) + 8) >> 4.
 fn quarter_sum(t: Taps, p: u16, q: u16, x: u16, y: u16) -> u16
     requires { ⌜ Small t ⌝ }
     requires { ⌜ (p ≤ 2046) × (q ≤ 2046) × (x ≤ 1023) × (y ≤ 1023) ⌝ }
     ensures { λ r. ⌜ (r ≡ quarterSum t p q x y) × (r ≤ 26603) ⌝ }
 {
-    (((times(t.a, p, 2, 2046) + 20480 - times(t.b, q, 10, 2046)) >> 1)
-        + times(t.c, x, 32, 1023)
-        + times(t.d, y, 29, 1023))
-        >> 1
+    rounded_sum(t, p, q, x, y, 0)
 }
 
 fn whole_sum(t: Taps, p: u16, q: u16, x: u16, y: u16, bias: u16) -> u16
@@ -185,7 +193,15 @@ fn one_at(s: &[u16], at: usize, o: Offsets, t: Taps) -> u16
     requires { ⌜ (at + o .p1 < length (now s)) × Ordered o × Small t × Bounded 1023 (now s) at o ⌝ }
     ensures { λ r. ⌜ r ≡ oneAt (now (s .entry)) at o t ⌝ }
 {
-    finish(quarter_at(s, at, o, t) + 8, 320)
+    let sum = rounded_sum(
+        t,
+        pair_sum(s, at, at + o.p1),
+        pair_sum(s, at + o.q0, at + o.q1),
+        sample(s, at + o.x),
+        sample(s, at + o.y),
+        8,
+    );
+    finish(sum, 320)
 }
 
 fn split_at(s: &[u16], at: usize, o: Offsets, t: Taps) -> u16
