@@ -1,7 +1,7 @@
 -- Phases and places in machine numbers. Assumes nothing.
 use mathlib.Core.Bool.{Bool, true, false}
 use mathlib.Core.Path.{_≡_, refl, sym, ap, ap₂, subst, _∙_}
-use Prim.Native.Nat.{ℕ, _+_, _-_, _%_, _<_, _≤_}
+use Prim.Native.Nat.{ℕ, _-_, _%_, _<_, _≤_}
 use native.Mathlib.Omega.{arith}
 use lib.Dec.{T}
 use lib.Bits.{bitAnd, and-mask}
@@ -10,7 +10,7 @@ use lib.Signed.{nonNeg, shrZ}
 use mir.Syntax.{w16, w32, w64}
 use mir.Val.{SFits, Fits, toZ, ofZ}
 use mir.Facts.{toZ-ofZ, sfits-widen}
-use Rattle.evc_int.specs.Whole.{_⁺, _⁻, _modulo_}
+use Rattle.evc_int.specs.Whole.{_modulo_}
 use Rattle.evc_int.proofs.Whole.{Is, of, nat, is--, is-by, same}
 use Rattle.evc_int.proofs.Expressions.{ !, _⊕_, _⊖_, solve, neg}
 use Rattle.evc_int.proofs.Division.{modulo-lt}

@@ -365,7 +365,7 @@ pub fn predict(
     requires { ⌜ Readable t (record { stride = stride; at = at; across = across; down = down; dx = dx; dy = dy }) w h (now plane) × (h * w ≤ length (now pred)) ⌝ }
     ensures { λ _. ⌜ now (pred .exit) ≡ withBlock (now (pred .entry)) 0 w w h (sampleFrom t (record { stride = stride; at = at; across = across; down = down; dx = dx; dy = dy }) (now (plane .entry))) ⌝ }
 {
-    // One call for one direction: with two it would not be built into this function, which costs a small block a fifth of its time.
+    // One call for one direction: with two it would not be built into this function.
     match across & down {
         true => evc_mc_nn(t, &*plane, at, stride, w, h, dx, dy, pred),
         false => match across | down {
@@ -380,13 +380,14 @@ pub fn predict(
 
 // ---- the call
 
+// Half of a block's side.
 fn is_chroma_side(n: u32) -> bool
     ensures { λ r. ⌜ r ≡ isSide PlaneType.UV n ⌝ }
 {
-    match n {
-        2 | 4 | 8 | 16 | 32 => true,
-        _ => false,
+    if n > 32 {
+        return false;
     }
+    evc_def::is_block_side(2 * n)
 }
 
 // On every path the window of both directions is examined.

@@ -260,15 +260,12 @@ pub fn window_exceeds(s: &[u16], at: usize, stride: usize, n: usize, h: usize) -
     or_window(&*s, at, stride, n, h) > MAX_SAMPLE_VAL
 }
 
-// The same of a picture: row after row, unless it is as narrow as a window.
+// The same of a picture, which is read row after row.
 fn exceeds(s: &[u16], at: usize, stride: usize, n: usize, h: usize) -> bool
     requires { ⌜ at + h * stride + n ≤ length (now s) + stride ⌝ }
     ensures { λ r. ⌜ r ≡ exceeds (now (s .entry)) at stride n h ⌝ }
 {
-    if (n < 4) | (n > 80) | (h < 1) {
-        return or_rows(s, at, stride, n, h) > MAX_SAMPLE_VAL;
-    }
-    window_exceeds(s, at, stride, n, h)
+    or_rows(s, at, stride, n, h) > MAX_SAMPLE_VAL
 }
 
 // ---- padding

@@ -103,11 +103,11 @@ fn avail_left(b: EvcBlock, map_scu: &[u32], first: usize, down: usize) -> u16
     requires { ⌜ (first ≡ scup b) × (down ≡ scuh b * wScu b) × (down ≤ 4129024) ⌝ }
     ensures { λ r. ⌜ (r ≡ availLeft b (now («map_scu» .entry))) × (r ≤ 130) ⌝ }
 {
-    let le = is_inter(&*map_scu, b.x != 0, first, 1);
+    let le = is_inter(map_scu, b.x != 0, first, 1);
     if !le {
         return 0;
     }
-    let lo_le = is_inter(&*map_scu, has_below(b), first + down, 1);
+    let lo_le = is_inter(map_scu, has_below(b), first + down, 1);
     AVAIL_LE + flag(lo_le, AVAIL_LO_LE)
 }
 
@@ -118,11 +118,11 @@ fn avail_right(b: EvcBlock, map_scu: &[u32], first: usize, down: usize) -> u16
     ensures { λ r. ⌜ (r ≡ availRight b (now («map_scu» .entry))) × (r ≤ 264) ⌝ }
 {
     let right = first + scu(b.w) as usize;
-    let ri = is_inter(&*map_scu, has_right(b), right, 0);
+    let ri = is_inter(map_scu, has_right(b), right, 0);
     if !ri {
         return 0;
     }
-    let lo_ri = is_inter(&*map_scu, has_below(b), right + down, 0);
+    let lo_ri = is_inter(map_scu, has_below(b), right + down, 0);
     AVAIL_RI + flag(lo_ri, AVAIL_LO_RI)
 }
 
@@ -137,10 +137,10 @@ fn avail_up(b: EvcBlock, map_scu: &[u32], first: usize) -> u16
     }
     let above = first - scu(b.pic_w) as usize;
     let scuw = scu(b.w) as usize;
-    let up = is_not_intra(&*map_scu, above);
-    let ri_up = is_not_intra(&*map_scu, above + scuw - 1);
-    let up_le = is_inter(&*map_scu, b.x != 0, above, 1);
-    let up_ri = is_inter(&*map_scu, has_right(b), above + scuw, 0);
+    let up = is_not_intra(map_scu, above);
+    let ri_up = is_not_intra(map_scu, above + scuw - 1);
+    let up_le = is_inter(map_scu, b.x != 0, above, 1);
+    let up_ri = is_inter(map_scu, has_right(b), above + scuw, 0);
     flag(up, AVAIL_UP)
         + flag(ri_up, AVAIL_RI_UP)
         + flag(up_le, AVAIL_UP_LE)
@@ -154,9 +154,9 @@ fn avail_inter(b: EvcBlock, map_scu: &[u32]) -> u16
 {
     let first = block_scup(b);
     let down = block_rows(b);
-    let left = avail_left(b, &*map_scu, first, down);
-    let right = avail_right(b, &*map_scu, first, down);
-    left + avail_up(b, &*map_scu, first) + right
+    let left = avail_left(b, map_scu, first, down);
+    let right = avail_right(b, map_scu, first, down);
+    left + avail_up(b, map_scu, first) + right
 }
 
 fn unit_count(b: EvcBlock) -> usize
@@ -335,16 +335,16 @@ fn candidates(
     let scup = block_scup(b);
     let w_scu = scu(b.pic_w) as usize;
     let scuw = scu(b.w) as usize;
-    let left = neighbour_mv(&*map_mv, lidx, GET_AVAIL_FLAG(avail, AVAIL_BIT_LE), scup, 1);
+    let left = neighbour_mv(map_mv, lidx, GET_AVAIL_FLAG(avail, AVAIL_BIT_LE), scup, 1);
     let up = neighbour_mv(
-        &*map_mv,
+        map_mv,
         lidx,
         GET_AVAIL_FLAG(avail, AVAIL_BIT_UP),
         scup,
         w_scu,
     );
     let up_right = neighbour_mv(
-        &*map_mv,
+        map_mv,
         lidx,
         GET_AVAIL_FLAG(avail, AVAIL_BIT_UP_RI),
         scup,
@@ -356,7 +356,7 @@ fn candidates(
     cand.up_right = up_right;
     cand.refi = [0; 4];
     if has_col {
-        cand.collocated = mv_at(&*col_mv, scup, 0);
+        cand.collocated = mv_at(col_mv, scup, 0);
     }
     cand
 }
@@ -479,7 +479,7 @@ pub fn evc_get_mv_dir(block: EvcBlock, pocs: Pocs, has_col: bool, col_mv: &[i16]
     };
     if code == 0 {
         let scup = block_scup(block);
-        let mv = collocated_mv(has_col, &*col_mv, scup, EvcMv { x: 0, y: 0 });
+        let mv = collocated_mv(has_col, col_mv, scup, EvcMv { x: 0, y: 0 });
         direct = direct_vectors(pocs, mv);
     }
     direct

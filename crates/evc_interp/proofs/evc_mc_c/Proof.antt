@@ -1,7 +1,7 @@
 -- `evc_interp::evc_mc_c` meets its contract: refused and untouched, or predicted. Assumes nothing.
 use mathlib.Core.Path.{_≡_, sym, ap₂, _∙_}
 use mathlib.Core.Bool.{Bool, false, not, _&&_, _||_}
-use Prim.Native.Nat.{_*_, _≤_}
+use Prim.Native.Nat.{_*_}
 use native.Mathlib.Nat.{mul-comm}
 use native.Mathlib.Omega.{arith}
 use lib.Dec.{ltb}

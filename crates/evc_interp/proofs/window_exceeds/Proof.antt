@@ -1,6 +1,5 @@
 -- `evc_interp::window_exceeds` meets its contract. Assumes nothing.
-use mathlib.Core.Path.{_≡_, _∙_}
-use Prim.Native.Nat.{_+_, _≤_}
+use mathlib.Core.Path.{_∙_}
 use native.Mathlib.Omega.{arith}
 use borrow.Author.Needs.{needs}
 use Rattle.evc_interp.proofs.Windows.{Side, side, stride-is, examined-asks, examined-is}

@@ -1,5 +1,5 @@
 -- `evc_util::evc_get_mv_dir` meets its contract. Assumes nothing.
-use mathlib.Core.Bool.{Bool, true, false, _&&_, _||_}
+use mathlib.Core.Bool.{Bool, true, false, _||_}
 use mathlib.Core.List.{List}
 use mathlib.Core.Path.{_≡_, sym, ap, _∙_}
 use Prim.Native.Nat.{ℕ, _+_, _*_, _≤_, _<_}
@@ -7,12 +7,11 @@ use native.Mathlib.Omega.{arith}
 use borrow.Author.Needs.{needs}
 use borrow.Author.Tests.{ne-eqb, ltb-false}
 use lib.Dec.{ltb}
-use lib.IntN.{ℤ, pos}
+use lib.IntN.{ℤ}
 use lib.ListN.{length}
 use Rattle.evc_def.specs.Blocks.{Allowed}
 use Rattle.evc_def.specs.Codes.{firstOf, blockChecks, zeroMv}
 use Rattle.evc_def.specs.declared.EvcBlock.{EvcBlock}
-use Rattle.evc_def.specs.declared.EvcMv.{EvcMv}
 use Rattle.evc_def.proofs.Codes.{accepted, both-accepted}
 use Rattle.evc_def.proofs.Blocks.{allowed-block}
 use Rattle.evc_util.specs.Units.{unitCount, mvLen}
