@@ -60,12 +60,32 @@ pub fn taps_of(t: PlaneType, phase: usize) -> Taps
     taps_at(first_row(t) + phase)
 }
 
-// A product of 16 bits. The bounds are for the proof: callers then need no law on products.
+// ---- the tap sums, by shifts and additions
+
+// n x. A loop and not a choice by n: of a loop the optimizer makes one product of 16 bits, and eight lanes stay one vector.
+fn multiple(n: u16, x: u16) -> u16
+    requires { ⌜ n * x ≤ 65535 ⌝ }
+    ensures { λ r. ⌜ r ≡ n * x ⌝ }
+{
+    let mut sum = 0;
+    let mut i = 0;
+    while i < n {
+        sum += x;
+        i += 1;
+    }
+    sum
+}
+
+// t x, from the digits of t to base 4: those of 26 are 1, 2 and 2. What is shifted is never above t x, so no bit is lost.
+// The bounds are for the proof: callers then need no law on products.
 fn times(t: u16, x: u16, t_max: u16, x_max: u16) -> u16
     requires { ⌜ (t ≤ «t_max») × (x ≤ «x_max») × («t_max» * «x_max» ≤ 65535) ⌝ }
     ensures { λ r. ⌜ (r ≡ t * x) × (r ≤ «t_max» * «x_max») × (r ≤ t * «x_max») × (r ≤ «t_max» * x) ⌝ }
 {
-    t * x
+    let high = multiple(t >> 4, x);
+    let middle = multiple((t >> 2) & 3, x);
+    let low = multiple(t & 3, x);
+    (((high << 2) + middle) << 2) + low
 }
 
 // The tap sum of samples, >> 2, with 5120 and the rounding more.
@@ -74,7 +94,7 @@ fn rounded_sum(t: Taps, p: u16, q: u16, x: u16, y: u16, rounding: u16) -> u16
     requires { ⌜ (p ≤ 2046) × (q ≤ 2046) × (x ≤ 1023) × (y ≤ 1023) × (rounding ≤ 8) ⌝ }
     ensures { λ r. ⌜ (r ≡ quarterSum t p q x y + rounding) × (r ≤ 26603 + rounding) ⌝ }
 {
-    (((times(t.a, p, 2, 2046) + (20480 + 4 * rounding) - times(t.b, q, 10, 2046)) >> 1)
+    (((times(t.a, p, 2, 2046) + (20480 + multiple(4, rounding)) - times(t.b, q, 10, 2046)) >> 1)
         + times(t.c, x, 32, 1023)
         + times(t.d, y, 29, 1023))
         >> 1
@@ -94,7 +114,7 @@ fn whole_sum(t: Taps, p: u16, q: u16, x: u16, y: u16, bias: u16) -> u16
     requires { ⌜ (p ≤ 831) × (q ≤ 831) × (x ≤ 415) × (y ≤ 415) × (10 * q ≤ bias) × (bias ≤ 8310) ⌝ }
     ensures { λ r. ⌜ (r ≡ wholeSum t p q x y bias) × (r ≤ 43172) ⌝ }
 {
-    times(t.a, p, 2, 831) + 2 * times(t.c, x, 32, 415) + 2 * times(t.d, y, 29, 415) + bias
+    times(t.a, p, 2, 831) + (times(t.c, x, 32, 415) << 1) + (times(t.d, y, 29, 415) << 1) + bias
         - times(t.b, q, 10, 831)
 }
 
@@ -104,8 +124,8 @@ fn split_sum(t: Taps, p: u16, q: u16, x: u16, y: u16) -> u16
     requires { ⌜ (p ≤ 53206) × (q ≤ 53206) × (x ≤ 26603) × (y ≤ 26603) ⌝ }
     ensures { λ r. ⌜ r ≡ splitSum t p q x y ⌝ }
 {
-    let high = whole_sum(t, p / 64, q / 64, x / 64, y / 64, 8310);
-    let low = whole_sum(t, p % 64, q % 64, x % 64, y % 64, 1152);
+    let high = whole_sum(t, p >> 6, q >> 6, x >> 6, y >> 6, 8310);
+    let low = whole_sum(t, p & 63, q & 63, x & 63, y & 63, 1152);
     high + (low >> 6)
 }
 
