@@ -60,9 +60,9 @@ pub fn taps_of(t: PlaneType, phase: usize) -> Taps
     taps_at(first_row(t) + phase)
 }
 
-// ---- the tap sums, by shifts and additions
+// ---- the tap sums, by shifts and additions: the processor of the viewing table has no wide multiply
 
-// n x. A loop and not a choice by n: of a loop the optimizer makes one product of 16 bits, and eight lanes stay one vector.
+// n x, by additions. A loop and not a choice by n: the optimizer makes one product of 16 bits of it, and eight lanes stay one vector.
 fn multiple(n: u16, x: u16) -> u16
     requires { ⌜ n * x ≤ 65535 ⌝ }
     ensures { λ r. ⌜ r ≡ n * x ⌝ }

@@ -1,7 +1,7 @@
 //! The proved archive against the original Rust and a hand-written limit, in one run; docs/SPEED.md
 //! says how to read it.
 //!
-//! `cargo run --profile wrapping -p bench -- [FILTER] [--rounds N] [--markdown]`
+//! `cargo run --profile wrapping -p bench -- [FILTER] [--rounds N] [--markdown]`, or `--guard`
 
 mod block;
 mod border;
@@ -17,18 +17,20 @@ mod vectors;
 
 use report::Report;
 
-fn arguments() -> Option<Report> {
-    let (mut rounds, mut markdown, mut filter) = (200, false, String::new());
+/// The report, and whether it is for the guard alone.
+fn arguments() -> Option<(Report, bool)> {
+    let (mut rounds, mut markdown, mut guard, mut filter) = (200, false, false, String::new());
     let mut args = std::env::args().skip(1);
     while let Some(arg) = args.next() {
         match arg.as_str() {
             "--rounds" => rounds = args.next()?.parse().ok().filter(|n| *n > 0)?,
             "--markdown" => markdown = true,
+            "--guard" => guard = true,
             _ if arg.starts_with('-') => return None,
             _ => filter = arg,
         }
     }
-    Some(Report::new(rounds, markdown, filter))
+    Some((Report::new(rounds, markdown, filter), guard))
 }
 
 /// The processor's name.
@@ -39,13 +41,16 @@ fn processor() -> Option<String> {
 }
 
 fn main() {
-    let Some(mut report) = arguments() else {
-        eprintln!("bench [FILTER] [--rounds N] [--markdown]");
+    let Some((mut report, guard)) = arguments() else {
+        eprintln!("bench [FILTER] [--rounds N] [--markdown] [--guard]");
         std::process::exit(2);
     };
     let processor = processor().unwrap_or("unknown processor".to_string());
     println!("{processor}, least of {} rounds.\n", report.rounds);
     one_plane::run(&mut report);
+    if guard {
+        std::process::exit(report.guard());
+    }
     block::run(&mut report);
     border::run(&mut report);
     vectors::run(&mut report);

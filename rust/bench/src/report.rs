@@ -42,6 +42,11 @@ const TARGETS: [&Target; 14] = [
     &LIMIT_BLOCK,
 ];
 
+/// How many times the limit's time a block of one plane may take before the guard ends with 1. No row is
+/// above 1.7; without the products that the optimizer makes of the tap sums, none that is filtered is
+/// below 4 (docs/SPEED.md).
+const GUARD: f64 = 3.0;
+
 pub struct Report {
     pub rounds: usize,
     pub markdown: bool,
@@ -89,6 +94,23 @@ impl Report {
         } else {
             println!("{}", terminal(title, head, rows));
         }
+    }
+
+    /// Of one plane's rows, those that take more than `GUARD` times the limit's time.
+    fn slow(&self) -> Vec<String> {
+        let of_limit = [LIMIT_LUMA.name, LIMIT_CHROMA.name];
+        let slow = |j: &&(&'static str, String, f64)| of_limit.contains(&j.0) && j.2 > GUARD;
+        let told = |j: &(&'static str, String, f64)| format!("{} {:.2}", j.1, j.2);
+        self.judged.iter().filter(slow).map(told).collect()
+    }
+
+    /// Says which rows have lost their vector form, and gives the status to end with.
+    pub fn guard(&self) -> i32 {
+        let slow = self.slow();
+        for row in &slow {
+            println!("above {GUARD} times the limit: {row}");
+        }
+        i32::from(self.judged.is_empty() || !slow.is_empty())
     }
 
     /// Of each target the largest ratio, and how many are above it.
@@ -194,5 +216,22 @@ impl Prediction {
             report.judge(Some(limit), what, of_limit),
             format!("{:.2}", self.ours / self.unexamined),
         ]
+    }
+}
+
+#[cfg(test)]
+mod tests {
+    use super::*;
+
+    #[test]
+    fn the_guard_notices_a_slow_row_and_a_run_without_rows() {
+        let mut report = Report::new(1, false, String::new());
+        assert_eq!(report.guard(), 1);
+        report.judge(Some(&LIMIT_LUMA), "luma", GUARD);
+        report.judge(Some(&WHOLE), "copy", 2.0 * GUARD);
+        assert_eq!(report.guard(), 0);
+        report.judge(Some(&LIMIT_CHROMA), "chroma", GUARD + 0.01);
+        assert_eq!(report.slow(), ["chroma 3.01"]);
+        assert_eq!(report.guard(), 1);
     }
 }

@@ -7,6 +7,7 @@ use lib.Bits.{bitAnd, and-mask, and-le-l}
 use Rattle.evc_filter.proofs.times.Statement.{statement}
 use Rattle.evc_filter.proofs.times.Tie as tie
 
+-- a product by the digits of its first factor
 digits : (t x : ℕ) → t * x ≡ t / 16 * x * 16 + bitAnd (t / 4) 3 * x * 4 + bitAnd t 3 * x
 digits t x =
     let e : t ≡ t / 16 * 16 + bitAnd (t / 4) 3 * 4 + bitAnd t 3 = omega (arith, and-mask (t / 4) 2, and-mask t 2) in
