@@ -42,9 +42,9 @@ const TARGETS: [&Target; 14] = [
     &LIMIT_BLOCK,
 ];
 
-/// How many times the limit's time a block of one plane may take before the guard ends with 1. No row is
-/// above 1.7; without the products that the optimizer makes of the tap sums, none that is filtered is
-/// below 4 (docs/SPEED.md).
+/// How many times the limit's time a filtered block of one plane may take before the guard ends with 1.
+/// docs/SPEED.md has how far from it the rows are, with and without the products that the optimizer
+/// makes of the tap sums.
 const GUARD: f64 = 3.0;
 
 pub struct Report {
@@ -96,21 +96,22 @@ impl Report {
         }
     }
 
-    /// Of one plane's rows, those that take more than `GUARD` times the limit's time.
-    fn slow(&self) -> Vec<String> {
-        let of_limit = [LIMIT_LUMA.name, LIMIT_CHROMA.name];
-        let slow = |j: &&(&'static str, String, f64)| of_limit.contains(&j.0) && j.2 > GUARD;
-        let told = |j: &(&'static str, String, f64)| format!("{} {:.2}", j.1, j.2);
-        self.judged.iter().filter(slow).map(told).collect()
-    }
-
-    /// Says which rows have lost their vector form, and gives the status to end with.
+    /// Says which filtered rows of one plane have lost their vector form, and gives the status to end
+    /// with: 1 also where there was no such row to look at.
     pub fn guard(&self) -> i32 {
-        let slow = self.slow();
-        for row in &slow {
-            println!("above {GUARD} times the limit: {row}");
+        let (mut rows, mut slow) = (0, 0);
+        for (target, what, ratio) in &self.judged {
+            let of_limit = [LIMIT_LUMA.name, LIMIT_CHROMA.name].contains(target);
+            if !of_limit || what.contains(" copy ") {
+                continue;
+            }
+            rows += 1;
+            if *ratio > GUARD {
+                slow += 1;
+                println!("{what}: {ratio:.2} times the limit's time, at most {GUARD}");
+            }
         }
-        i32::from(self.judged.is_empty() || !slow.is_empty())
+        i32::from(rows == 0 || slow > 0)
     }
 
     /// Of each target the largest ratio, and how many are above it.
@@ -224,14 +225,15 @@ mod tests {
     use super::*;
 
     #[test]
-    fn the_guard_notices_a_slow_row_and_a_run_without_rows() {
+    fn the_guard_notices_a_slow_filter_and_a_run_without_filters() {
         let mut report = Report::new(1, false, String::new());
         assert_eq!(report.guard(), 1);
-        report.judge(Some(&LIMIT_LUMA), "luma", GUARD);
-        report.judge(Some(&WHOLE), "copy", 2.0 * GUARD);
+        report.judge(Some(&LIMIT_LUMA), "luma copy 8x8", GUARD + 0.01);
+        assert_eq!(report.guard(), 1);
+        report.judge(Some(&LIMIT_LUMA), "luma both 8x8", GUARD);
+        report.judge(Some(&TWO_LUMA), "luma both 8x8", GUARD + 0.01);
         assert_eq!(report.guard(), 0);
-        report.judge(Some(&LIMIT_CHROMA), "chroma", GUARD + 0.01);
-        assert_eq!(report.slow(), ["chroma 3.01"]);
+        report.judge(Some(&LIMIT_CHROMA), "chroma down 4x4", GUARD + 0.01);
         assert_eq!(report.guard(), 1);
     }
 }
