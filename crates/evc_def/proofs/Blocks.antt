@@ -1,7 +1,7 @@
 -- What the checks leave: an accepted block is allowed in both directions; it is accepted at its mirrored places too. Assumes nothing.
 use mathlib.Core.Bool.{Bool, true, false, not, _&&_, _||_}
 use mathlib.Core.Logic.{⊎-elim}
-use mathlib.Core.Path.{_≡_, refl, ap₂, subst, _∙_}
+use mathlib.Core.Path.{_≡_, refl, sym, ap₂, subst, _∙_}
 use Prim.Native.Nat.{ℕ, _+_, _-_, _%_, _≤_}
 use native.Mathlib.Omega.{arith}
 use lib.Dec.{T, leb, eqb, leb→le, eqb→eq}
@@ -12,18 +12,22 @@ use Rattle.evc_def.specs.Codes.{firstOf, blockChecks}
 use Rattle.evc_def.specs.declared.EvcBlock.{EvcBlock}
 use Rattle.evc_def.proofs.Codes.{accepted, passed, none, or-yes}
 
--- a block's side is a multiple of 4 from 4 to 64
-side-is : (n : ℕ) → T (isBlockSide n) → (4 ≤ n) × (n ≤ 64) × (n % 4 ≡ 0)
-side-is n t =
+-- what holds of each side holds of a block's side
+pub by-sides : (P : ℕ → Type 0) → P 4 → P 8 → P 16 → P 32 → P 64 → (n : ℕ) → T (isBlockSide n) → P n
+by-sides P p4 p8 p16 p32 p64 n t =
     ⊎-elim
     (λ t. ⊎-elim
     (λ t. ⊎-elim
     (λ t. ⊎-elim
-    (λ t. let e = eqb→eq n 4 t in omega arith)
-    (λ t. let e = eqb→eq n 8 t in omega arith) (or-yes (eqb n 4) (eqb n 8) t))
-    (λ t. let e = eqb→eq n 16 t in omega arith) (or-yes (eqb n 4 || eqb n 8) (eqb n 16) t))
-    (λ t. let e = eqb→eq n 32 t in omega arith) (or-yes (eqb n 4 || eqb n 8 || eqb n 16) (eqb n 32) t))
-    (λ t. let e = eqb→eq n 64 t in omega arith) (or-yes (eqb n 4 || eqb n 8 || eqb n 16 || eqb n 32) (eqb n 64) t)
+    (λ t. subst P (sym (eqb→eq n 4 t)) p4)
+    (λ t. subst P (sym (eqb→eq n 8 t)) p8) (or-yes (eqb n 4) (eqb n 8) t))
+    (λ t. subst P (sym (eqb→eq n 16 t)) p16) (or-yes (eqb n 4 || eqb n 8) (eqb n 16) t))
+    (λ t. subst P (sym (eqb→eq n 32 t)) p32) (or-yes (eqb n 4 || eqb n 8 || eqb n 16) (eqb n 32) t))
+    (λ t. subst P (sym (eqb→eq n 64 t)) p64) (or-yes (eqb n 4 || eqb n 8 || eqb n 16 || eqb n 32) (eqb n 64) t)
+
+-- a block's side is a multiple of 4 from 4 to 64
+side-is : (n : ℕ) → T (isBlockSide n) → (4 ≤ n) × (n ≤ 64) × (n % 4 ≡ 0)
+side-is = by-sides (λ (n : ℕ). (4 ≤ n) × (n ≤ 64) × (n % 4 ≡ 0)) (omega arith) (omega arith) (omega arith) (omega arith) (omega arith)
 
 allowed-side : (size place side : ℕ) → T (isPictureSide size) → T (isBlockSide side) → T (isInside size place side) → Allowed size place side
 allowed-side size place side p s i =

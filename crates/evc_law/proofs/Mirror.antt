@@ -107,7 +107,7 @@ module _ (b : EvcBlock) (p p′ q q′ : Picture) where
 -- ---- a mirrored call, for either mirror
 
 -- a list not in use is not read
-by-used : (u v u′ v′ : Bool) (a b a′ b′ : ℕ) → u || v ≡ true → u′ ≡ u → v′ ≡ v → (u ≡ true → a′ ≡ a) → (v ≡ true → b′ ≡ b)
+pub by-used : (u v u′ v′ : Bool) (a b a′ b′ : ℕ) → u || v ≡ true → u′ ≡ u → v′ ≡ v → (u ≡ true → a′ ≡ a) → (v ≡ true → b′ ≡ b)
     → cond (u′ && v′) (roundedAverage a′ b′) (cond u′ a′ b′) ≡ cond (u && v) (roundedAverage a b) (cond u a b)
 by-used true true u′ v′ a b a′ b′ s e f g h = rw (e, f) (ap₂ roundedAverage (g refl) (h refl))
 by-used true false u′ v′ a b a′ b′ s e f g h = rw (e, f) (g refl)

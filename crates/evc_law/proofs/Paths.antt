@@ -35,7 +35,7 @@ use Rattle.evc_law.proofs.Phases.{tapSum-same, across-alone, down-alone
 -- ---- the phase of a clipped place
 
 -- 16 is a whole number of samples, in luma and in chroma
-aligned-phase : (k : PlaneType) (z q y : ℤ) → z ≡ pos 16 *ℤ q +ℤ y → phaseOf k y ≡ 0 → phaseOf k z ≡ 0
+pub aligned-phase : (k : PlaneType) (z q y : ℤ) → z ≡ pos 16 *ℤ q +ℤ y → phaseOf k y ≡ 0 → phaseOf k z ≡ 0
 unfolding phaseOf
 aligned-phase Y z q y e h =
     let p = shrZ y 4 in

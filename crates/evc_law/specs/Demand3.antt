@@ -61,21 +61,27 @@ sample k c x y = getD (mc2First (k .block) (k .l0) (k .l1) (k .pred0) (k .pred1)
 
 -- ---- the general filter
 
--- the general filter at a list's clipped place, over the padded reference picture
+-- the general filter at a place, over the padded reference picture
+abbrev pub generalAt : EvcBlock → EvcMv → Picture → Component → ℕ → ℕ → ℕ
+generalAt b place p c x y = general (typeOf c) (referenceOf (typeOf c) (b .«pic_w») (b .«pic_h») (p c)) (place .x) (place .y) x y
+
+-- at a list's clipped place
 abbrev pub generalList : EvcBlock → EvcList → Picture → Component → ℕ → ℕ → ℕ
-generalList b l p c x y =
-    let place = clippedPlace b (l .mv) in
-    general (typeOf c) (referenceOf (typeOf c) (b .«pic_w») (b .«pic_h») (p c)) (place .x) (place .y) x y
+generalList b l p c x y = generalAt b (clippedPlace b (l .mv)) p c x y
 
 -- "With both lists in use the sample is (a + b + 1) >> 1, also where counts and vectors are equal."
 abbrev pub roundedAverage : ℕ → ℕ → ℕ
 roundedAverage a b = (a + b + 1) / 2
 
-abbrev pub generalSample : Call → Component → ℕ → ℕ → ℕ
-generalSample k c x y =
-    let a = generalList (k .block) (k .l0 .list) (k .picture0) c x y in
-    let b = generalList (k .block) (k .l1 .list) (k .picture1) c x y in
+-- the sample of a call whose lists have these
+abbrev pub ofLists : Call → (EvcList → Picture → ℕ) → ℕ
+ofLists k of =
+    let a = of (k .l0 .list) (k .picture0) in
+    let b = of (k .l1 .list) (k .picture1) in
     cond (k .l0 .list .used && k .l1 .list .used) (roundedAverage a b) (cond (k .l0 .list .used) a b)
+
+abbrev pub generalSample : Call → Component → ℕ → ℕ → ℕ
+generalSample k c x y = ofLists k (λ (l : EvcList) (p : Picture). generalList (k .block) l p c x y)
 
 -- "each predicted sample of the first block, in all three planes, equals the general two-stage filter .. at the clipped place over a picture prolonged by its
 -- edge samples; with two references, the rounded average of both"

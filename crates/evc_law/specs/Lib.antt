@@ -1,3 +1,4 @@
 pub mod General
 pub mod Demand3
+pub mod Invisible
 pub mod Edges

@@ -4,6 +4,7 @@ use crate::archive::{Archive, Calls, EvcCandidates};
 use crate::cases::block::Blocks;
 use crate::cases::clipping::Clipping;
 use crate::cases::demand3::Demand3;
+use crate::cases::invisible::{Invisible, UpTo};
 use crate::cases::one_plane::Planes;
 use crate::cases::padding::Padding;
 use crate::cases::units::{Directs, Flags, Motions};
@@ -221,6 +222,7 @@ fn no_fault() {
     assert_none::<Planes>();
     assert_none::<Blocks>();
     assert_none::<Demand3>();
+    assert_none::<Invisible>();
 }
 
 /// The lines of a run that fails: `cargo test -p compare told -- --nocapture`.
@@ -298,6 +300,14 @@ fn of_demand_3() {
     let small = ["pic: [4, 4]", "used: [true, true]"];
     assert_noticed::<Demand3>(AveragesDown, DIFFERS, &small);
     assert_noticed::<Demand3>(LeansLeft, DIFFERS, &["used: [false, true]"]);
+}
+
+#[test]
+fn of_w6() {
+    assert_noticed::<Invisible>(LeansLeft, DIFFERS, &["used: [false, true]"]);
+    // the law claimed of a side of 64 too: the case is a mirror image of W6's counterexample
+    let small = ["place: [0, 0], side: [4, 64]", "[0, -257]"];
+    assert_noticed::<UpTo<64>>(NoFault, DIFFERS, &small);
 }
 
 #[test]

@@ -1,4 +1,4 @@
-//! Every call of the archive against the Rust and against document 01.
+//! Every call of the archive against the Rust and against document 01, and the laws of both documents.
 
 mod archive;
 mod cases;
@@ -14,6 +14,7 @@ use archive::{Archive, Calls};
 use cases::block::Blocks;
 use cases::clipping::Clipping;
 use cases::demand3::Demand3;
+use cases::invisible::Invisible;
 use cases::one_plane::Planes;
 use cases::padding::Padding;
 use cases::units::{Directs, Flags, Motions};
@@ -121,7 +122,7 @@ fn told_end(end: End) -> &'static str {
 type Comparison = fn(&dyn Calls, &Options, f64) -> bool;
 
 /// Each call with its share of the time.
-const CALLS: [(&str, Comparison, f64); 8] = [
+const CALLS: [(&str, Comparison, f64); 9] = [
     (Padding::NAME, compare::<Padding>, 0.12),
     (Flags::NAME, compare::<Flags>, 0.08),
     (Motions::NAME, compare::<Motions>, 0.08),
@@ -130,6 +131,7 @@ const CALLS: [(&str, Comparison, f64); 8] = [
     (Planes::NAME, compare::<Planes>, 0.18),
     (Blocks::NAME, compare::<Blocks>, 0.22),
     (Demand3::NAME, compare::<Demand3>, 0.2),
+    (Invisible::NAME, compare::<Invisible>, 0.15),
 ];
 
 fn main() {

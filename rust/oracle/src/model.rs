@@ -1,5 +1,5 @@
-//! Every call as document 01 tells it, refusals included. Written from its sentences, which are quoted, and not from the Rust: samples and
-//! whole numbers, one unit or one sample at a time.
+//! Every call as document 01 tells it, refusals included, and document 02's laws. Written from their sentences, which are quoted, and not from the Rust:
+//! samples and whole numbers, one unit or one sample at a time.
 
 pub type Mv = [i16; 2];
 
@@ -282,12 +282,16 @@ impl OnePlane {
         }
     }
 
+    fn position(&self) -> [i64; 2] {
+        self.gmv.map(i64::from)
+    }
+
     pub fn phase(&self) -> [i64; 2] {
-        self.gmv.map(|v| i64::from(v).rem_euclid(self.parts()))
+        self.position().map(|v| v.rem_euclid(self.parts()))
     }
 
     fn place(&self) -> [i64; 2] {
-        self.gmv.map(|v| i64::from(v).div_euclid(self.parts()))
+        self.position().map(|v| v.div_euclid(self.parts()))
     }
 
     /// Directions that are filtered: "the path comes from the original vector's low 2 bits (chroma 3)"
@@ -329,8 +333,8 @@ impl OnePlane {
     }
 
     /// "rows first, sum >> 2, then columns, (sum + 512) >> 10", over any samples.
-    fn two_stages(&self, at: impl Fn(i64, i64) -> i64) -> Vec<u16> {
-        let [across, down] = self.phase().map(|phase| self.taps(phase));
+    fn two_stages(&self, phase: [i64; 2], at: impl Fn(i64, i64) -> i64) -> Vec<u16> {
+        let [across, down] = phase.map(|phase| self.taps(phase));
         let [w, h] = self.side.map(|n| n as usize);
         let rows: Vec<Vec<i64>> = (0..h + down.len() - 1)
             .map(|r| {
@@ -360,7 +364,7 @@ impl OnePlane {
             [false, true] => places
                 .map(|(c, r)| one(sum(&down, |k| at(c as i64, (r + k) as i64))))
                 .collect(),
-            [true, true] => self.two_stages(at),
+            [true, true] => self.two_stages(self.phase(), at),
         }
     }
 
@@ -379,9 +383,16 @@ impl OnePlane {
     /// The definition that demand 3 compares: "The general filter always runs both stages", over the
     /// picture prolonged without end.
     pub fn general(&self, plane: &[u16]) -> Vec<u16> {
-        let ([x, y], [pw, ph]) = (self.place(), self.size());
+        self.general_at(self.position(), plane)
+    }
+
+    /// The same at any position, also one that sixteen bits do not hold.
+    fn general_at(&self, position: [i64; 2], plane: &[u16]) -> Vec<u16> {
+        let [x, y] = position.map(|v| v.div_euclid(self.parts()));
+        let phase = position.map(|v| v.rem_euclid(self.parts()));
+        let [pw, ph] = self.size();
         let before = self.reach()[0];
-        self.two_stages(|i, j| {
+        self.two_stages(phase, |i, j| {
             let i = (x + i - before).max(0).min(pw - 1);
             let j = (y + j - before).max(0).min(ph - 1);
             self.held(plane, i, j)
@@ -535,10 +546,6 @@ impl List<'_> {
     fn block(&self, b: &Block, plane: usize) -> Vec<u16> {
         self.one_plane(b, plane).block(self.planes[plane])
     }
-
-    fn general(&self, b: &Block, plane: usize) -> Vec<u16> {
-        self.one_plane(b, plane).general(self.planes[plane])
-    }
 }
 
 /// "two lent blocks of at least 6144 samples, both needed even when one list is in use"
@@ -605,16 +612,70 @@ pub fn block(b: &Block, lists: &[List; 2], pred0: &mut [u16], pred1: &mut [u16])
     0
 }
 
-/// The predicted samples that demand 3 compares, luma, cb, cr: "With both lists in use the sample is
-/// (a + b + 1) >> 1, also where counts and vectors are equal."
-pub fn general_block(b: &Block, lists: &[List; 2]) -> [Vec<u16>; 3] {
+/// "With both lists in use the sample is (a + b + 1) >> 1, also where counts and vectors are equal.":
+/// luma, cb, cr of what `of` gives for a list and a plane.
+fn of_lists(lists: &[List; 2], of: impl Fn(&List, usize) -> Vec<u16>) -> [Vec<u16>; 3] {
     [0, 1, 2].map(|plane| {
         let in_use = lists.iter().filter(|list| list.used);
-        let mut blocks = in_use.map(|list| list.general(b, plane));
+        let mut blocks = in_use.map(|list| of(list, plane));
         let first = blocks.next().expect("a list is in use");
         match blocks.next() {
             Some(second) => average(&first, &second),
             None => first,
         }
     })
+}
+
+/// The predicted samples that demand 3 compares.
+pub fn general_block(b: &Block, lists: &[List; 2]) -> [Vec<u16>; 3] {
+    of_lists(lists, |list, plane| {
+        list.one_plane(b, plane).general(list.planes[plane])
+    })
+}
+
+/// Document 02, W6: the predicted samples at "the exact unclipped place", 4x + mvx and 4y + mvy with
+/// the vector as given.
+pub fn exact_block(b: &Block, lists: &[List; 2]) -> [Vec<u16>; 3] {
+    of_lists(lists, |list, plane| {
+        let place = [0, 1].map(|d| {
+            let [_, x, _, mvx] = b.component(list.mv, d);
+            4 * x + mvx
+        });
+        let one_plane = list.one_plane(b, plane);
+        one_plane.general_at(place, list.planes[plane])
+    })
+}
+
+impl Block {
+    /// By how many quarter samples clipping moves a vector in one direction.
+    pub fn moved(&self, mv: Mv, d: usize) -> u64 {
+        let [pic, x, w, mvx] = self.component(mv, d);
+        clipped(pic, x, w, mvx).abs_diff(mvx)
+    }
+
+    /// "for sides of at most 32 clipping changes no sample .., and .. for chroma it never does": where it
+    /// changes none of a plane of the block. Along a side of 64 it can change luma, but only where it
+    /// moves the vector by one to three quarter samples.
+    pub fn is_clipping_hidden(&self, lists: &[List; 2], plane: usize) -> bool {
+        let can_show = |list: &List, d: usize| {
+            plane == 0 && self.side[d] == 64 && (1..=3).contains(&self.moved(list.mv, d))
+        };
+        let mut in_use = lists.iter().filter(|list| list.used);
+        !in_use.any(|list| can_show(list, 0) || can_show(list, 1))
+    }
+
+    /// "its four quarters (sides 8 and up ..)": upper left, upper right, lower left, lower right.
+    pub fn quarters(&self) -> Option<[Block; 4]> {
+        let side = self.side.map(|n| n / 2);
+        let quarter = |k: u32| Block {
+            pic: self.pic,
+            place: [
+                self.place[0] + k % 2 * side[0],
+                self.place[1] + k / 2 * side[1],
+            ],
+            side,
+        };
+        let is_split = self.side.iter().all(|side| *side >= 8);
+        is_split.then(|| [0, 1, 2, 3].map(quarter))
+    }
 }

@@ -1,4 +1,4 @@
-//! The Rust's `evc_mc2` against document 01 (`oracle::model`), 'Block' and 'What demand 3 compares'.
+//! The Rust's `evc_mc2` against document 01 (`oracle::model`), 'Block' and 'What demand 3 compares', and document 02, W6.
 
 use oracle::cases::*;
 use oracle::model::{self, Block, OFFSETS, PRED_LEN};
@@ -362,6 +362,139 @@ fn exchanged() {
         }
     }
     assert_eq!(calls, 7 * 3 * 200);
+}
+
+/// A call for W6: every side is as likely.
+fn w6(pic: [u32; 2], used: [bool; 2], rng: &mut Rng) -> (BlockCall, [usize; 2]) {
+    let (mut c, which) = demand_3(pic, used, rng);
+    for d in 0..2 {
+        let fits = sides(pic[d] as i16);
+        c.b.side[d] = fits[rng.below(fits.len())] as u32;
+        c.b.place[d] = 4 * rng.below((pic[d] - c.b.side[d]) as usize / 4 + 1) as u32;
+    }
+    c.mv = [(); 2].map(|_| vector(&c.b, random_towards(rng), rng));
+    (c, which)
+}
+
+/// Whether clipping moves a vector in use.
+fn is_clipped(c: &BlockCall) -> bool {
+    let is_moved = |k: usize| (0..2).any(|d| c.b.moved(c.mv[k], d) > 0);
+    (0..2).any(|k| c.used[k] && is_moved(k))
+}
+
+const W6_PICTURES: [[u32; 2]; 4] = [[8, 12], [36, 64], [64, 64], [100, 84]];
+
+/// W6: "for sides of at most 32 clipping changes no sample compared with the exact unclipped place, and
+/// .. for chroma it never does"; along a side of 64 luma where it is hidden too.
+#[test]
+fn unclipped_place() {
+    let mut rng = Rng(38);
+    let (mut calls, mut clipped, mut shows) = (0, 0, 0);
+    for (k, &pic) in W6_PICTURES.iter().enumerate() {
+        let planes = [(); 2].map(|_| Planes::new(pic, k % 2 == 0, &mut rng).padded());
+        let old = old_blocks(&mut rng);
+        for used in USES {
+            for _ in 0..400 {
+                let (c, which) = w6(pic, used, &mut rng);
+                let planes = which.map(|k| &planes[k]);
+                let lists = c.lists(planes.map(Planes::slices));
+                let exact = model::exact_block(&c.b, &lists);
+                let got = rust_predicted(&c, planes, &old);
+                for k in (0..3).filter(|k| c.b.is_clipping_hidden(&lists, *k)) {
+                    assert_eq!(got[k], exact[k], "{c:?}, plane {k}");
+                }
+                calls += 1;
+                clipped += usize::from(is_clipped(&c));
+                shows += usize::from(got != exact);
+            }
+        }
+    }
+    assert_eq!((calls, clipped, shows), (4800, 4171, 372));
+}
+
+/// W6: "predicting its four quarters separately gives the same samples (sides 8 and up, same references
+/// and vectors)", where clipping is hidden.
+#[test]
+fn quarters() {
+    let mut rng = Rng(39);
+    let (mut calls, mut clipped) = (0, 0);
+    for (k, &pic) in W6_PICTURES.iter().enumerate() {
+        let planes = [(); 2].map(|_| Planes::new(pic, k % 2 == 0, &mut rng).padded());
+        let old = old_blocks(&mut rng);
+        for used in USES {
+            for _ in 0..400 {
+                let (c, which) = w6(pic, used, &mut rng);
+                let planes = which.map(|k| &planes[k]);
+                let is_hidden =
+                    c.b.is_clipping_hidden(&c.lists(planes.map(Planes::slices)), 0);
+                let quarters = match c.b.quarters() {
+                    Some(quarters) if is_hidden => quarters,
+                    _ => continue,
+                };
+                let whole = rust_predicted(&c, planes, &old);
+                for (n, b) in quarters.iter().enumerate() {
+                    let quarter = rust_predicted(&BlockCall { b: *b, ..c }, planes, &old);
+                    for k in 0..3 {
+                        let [w, h] = b.side.map(|n| n as usize >> k.min(1));
+                        let [left, top] = [n % 2 * w, n / 2 * h];
+                        let rows = whole[k].chunks(2 * w).skip(top).take(h);
+                        let part: Vec<&u16> = rows.flat_map(|row| &row[left..left + w]).collect();
+                        let quarter: Vec<&u16> = quarter[k].iter().collect();
+                        assert_eq!(quarter, part, "{c:?}, quarter {n}, plane {k}");
+                    }
+                }
+                calls += 1;
+                clipped += usize::from(is_clipped(&c));
+            }
+        }
+    }
+    assert_eq!((calls, clipped), (2175, 1854));
+}
+
+/// W6's counterexample and its mirror images (docs/DIFFERENCES.md): past a limit, a block with a side of
+/// 64 gives 0 where the exact place gives another sample, one to three quarter samples past it.
+#[test]
+fn clipping_shows() {
+    for (d, is_high) in [(0, false), (0, true), (1, false), (1, true)] {
+        let mut pic = [4, 4];
+        pic[d] = 64;
+        // the line next to the edge holds 1023, all others 0
+        let samples = [0, 1, 2].map(|k| {
+            let cfg = plane_config(k > 0, pic[0] as usize, pic[1] as usize);
+            let mut samples = vec![0; cfg.stride * cfg.alloc_height];
+            let line = if is_high { 62 } else { 1 };
+            for n in (0..4).filter(|_| k == 0) {
+                let [x, y] = if d == 0 { [line, n] } else { [n, line] };
+                samples[(cfg.yorigin + y) * cfg.stride + cfg.xorigin + x] = 1023;
+            }
+            samples
+        });
+        let planes = Planes::of(pic, samples).padded();
+        let old = old_blocks(&mut Rng(40));
+        for (past, other) in [(0, 0), (1, 16), (2, 32), (3, 16), (4, 0)] {
+            let mut c = BlockCall {
+                b: Block {
+                    pic,
+                    place: [0, 0],
+                    side: pic,
+                },
+                used: [true, false],
+                mv: [[0, 0]; 2],
+                poc: [0, 0],
+            };
+            c.mv[0][d] = if is_high { 256 + past } else { -256 - past };
+            let [got, _, _] = rust_predicted(&c, [&planes; 2], &old);
+            let [exact, _, _] = model::exact_block(&c.b, &c.lists([planes.slices(); 2]));
+            // the sample of the first row or column that lies nearest to the picture
+            let last = if is_high {
+                0
+            } else {
+                63 * if d == 0 { 1 } else { 4 }
+            };
+            assert_eq!((got[last], exact[last]), (0, other), "{c:?}");
+            assert!(got.iter().all(|sample| *sample == 0), "{:?}", c);
+        }
+    }
 }
 
 /// Refusals in the order of their numbers; both blocks stay. The Rust has none.

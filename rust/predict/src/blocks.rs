@@ -3,6 +3,7 @@
 use evc_inter::{EvcBlock, EvcMv};
 
 /// A block with its vector for each list.
+#[derive(Clone, Copy)]
 pub struct Moved {
     pub block: EvcBlock,
     pub mv: [EvcMv; 2],

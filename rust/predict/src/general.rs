@@ -21,10 +21,21 @@ const TBL_MC_C_COEFF: [[i32; 4]; 8] = [
     [-2, 10, 58, -2],
 ];
 
-/// A clipped place on plane `c`: the taps of its phase, and where they begin.
-fn place(c: usize, at: u32, mv: i16, side: u32, pic: u32) -> (&'static [i32], i32) {
+/// Where the filter runs: demand 3 says the clipped place, document 02's W6 the exact one.
+#[derive(Clone, Copy, PartialEq)]
+pub enum Place {
+    Clipped,
+    Exact,
+}
+
+/// A place on plane `c`: the taps of its phase, and where they begin.
+fn taps(c: usize, which: Place, at: u32, mv: i16, side: u32, pic: u32) -> (&'static [i32], i32) {
     let [at, side, pic] = [at, side, pic].map(|n| n as i32);
-    let place = (4 * at + i32::from(mv)).clamp(-256, 4 * (pic + 64 - side));
+    let exact = 4 * at + i32::from(mv);
+    let place = match which {
+        Place::Clipped => exact.clamp(-256, 4 * (pic + 64 - side)),
+        Place::Exact => exact,
+    };
     match c {
         0 => (&TBL_MC_L_COEFF[(place & 3) as usize], (place >> 2) - 2),
         _ => (&TBL_MC_C_COEFF[(place & 7) as usize], (place >> 3) - 1),
@@ -32,9 +43,9 @@ fn place(c: usize, at: u32, mv: i16, side: u32, pic: u32) -> (&'static [i32], i3
 }
 
 /// One list's prediction of plane `c`, over the plane prolonged by its edge samples.
-fn predicted(plane: &Plane, c: usize, b: &EvcBlock, mv: EvcMv) -> Vec<u16> {
-    let (across, left) = place(c, b.x, mv.x, b.w, b.pic_w);
-    let (down, top) = place(c, b.y, mv.y, b.h, b.pic_h);
+fn predicted(plane: &Plane, c: usize, b: &EvcBlock, mv: EvcMv, which: Place) -> Vec<u16> {
+    let (across, left) = taps(c, which, b.x, mv.x, b.w, b.pic_w);
+    let (down, top) = taps(c, which, b.y, mv.y, b.h, b.pic_h);
     let half = if c == 0 { 1 } else { 2 };
     let [w, h] = [b.w, b.h].map(|side| (side / half) as usize);
     let held = |n: i32, side: usize| n.clamp(0, side as i32 - 1) as usize;
@@ -56,13 +67,18 @@ fn predicted(plane: &Plane, c: usize, b: &EvcBlock, mv: EvcMv) -> Vec<u16> {
     (0..w * h).map(second).collect()
 }
 
-/// The first sample of the first block that the general filter does not give, if there is one.
-pub fn difference(call: &Call, pictures: &[Picture; 2], pred0: &[u16]) -> Option<String> {
+/// The first sample of the first block that the general filter does not give there, if there is one.
+pub fn difference(
+    call: &Call,
+    pictures: &[Picture; 2],
+    pred0: &[u16],
+    which: Place,
+) -> Option<String> {
     let b = &call.block;
     (0..3).find_map(|c| {
         let lists = (0..2).filter(|list| call.lists[*list].used).map(|list| {
             let plane = &pictures[call.from[list]].planes[c];
-            predicted(plane, c, b, call.lists[list].mv)
+            predicted(plane, c, b, call.lists[list].mv, which)
         });
         let average =
             |a: Vec<u16>, b: Vec<u16>| a.iter().zip(b).map(|(a, b)| (a + b + 1) >> 1).collect();
@@ -103,7 +119,26 @@ mod tests {
                 h: 4,
             };
             let mv = EvcMv { x: 8 + phase, y: 0 };
-            assert_eq!(predicted(&plane, 0, &block, mv)[0], want);
+            assert_eq!(predicted(&plane, 0, &block, mv, Place::Clipped)[0], want);
+        }
+    }
+
+    /// W6's counterexample.
+    #[test]
+    fn places() {
+        let mut plane = Plane::new(false, 64, 4).unwrap();
+        plane.rows_mut().for_each(|row| row[1] = 1023);
+        let block = EvcBlock {
+            pic_w: 64,
+            pic_h: 4,
+            x: 0,
+            y: 0,
+            w: 64,
+            h: 4,
+        };
+        let mv = EvcMv { x: -257, y: 0 };
+        for (which, want) in [(Place::Clipped, 0), (Place::Exact, 16)] {
+            assert_eq!(predicted(&plane, 0, &block, mv, which)[63], want);
         }
     }
 }

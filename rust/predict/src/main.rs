@@ -1,14 +1,16 @@
-//! Predicts a picture from two references, block by block, and holds it to demand 3.
+//! Predicts a picture from two references, block by block, and holds it to demand 3 and to document 02's W6.
 
 mod blocks;
 mod general;
 mod progress;
 mod scene;
+mod splits;
 mod turns;
 mod y4m;
 
 use blocks::Moved;
 use evc_inter::{cu_plane, evc_mv_clip, EvcBlock, EvcList, EvcMv, Picture, Refusal};
+use general::Place;
 use progress::Progress;
 use std::collections::BTreeSet;
 use std::ffi::OsString;
@@ -20,7 +22,7 @@ use turns::{Call, Lent, Turn};
 
 const USAGE: &str = "usage: predict [REF0.y4m REF1.y4m | --size WxH] [--out DIR]
 Predicts a picture from two references with made-up vectors, checks every block against the
-general filter and against its mirror images, and writes the picture to DIR.
+general filter, its mirror images and its quarters, and writes the picture to DIR.
 REF0, REF1   pictures with 10-bit 4:2:0 samples (C420p10); without them two are made up
 --size WxH   size of the made-up pictures (416x240)
 --out DIR    where predicted.y4m and predicted.pgm go (target/predict)
@@ -178,7 +180,40 @@ fn hold(
     Ok(agree == of)
 }
 
-/// The picture predicted from both lists, and whether all that demand 3 says of it holds.
+/// Document 02, W6: blocks are what the exact unclipped place gives, and what their quarters give. Not
+/// asked of a block in which clipping may show.
+fn hold_to_w6(pictures: &[Picture; 2], blocks: &[Moved]) -> Result<bool, String> {
+    let mut hidden = Vec::new();
+    for moved in blocks {
+        let is_hidden = |mv| splits::is_clipping_hidden(&moved.block, mv);
+        let [first, second] = moved.mv.map(is_hidden);
+        if first
+            .and_then(|first| Ok(first && second?))
+            .map_err(|e| e.to_string())?
+        {
+            hidden.push(*moved);
+        }
+    }
+    let all = hold("unclipped place", pictures, &hidden, |_, call, pred| {
+        Ok(general::difference(call, pictures, pred, Place::Exact))
+    })?;
+    hidden.retain(|moved| splits::quarters(&moved.block).is_some());
+    let mut lent = Lent::filled(1023);
+    let split = hold("split into quarters", pictures, &hidden, |_, call, pred| {
+        let quarters = splits::quarters(&call.block).into_iter().flatten();
+        for (n, block) in quarters.enumerate() {
+            Call { block, ..*call }.predict(pictures, &mut lent)?;
+            let difference = splits::difference(&call.block, pred, n, &lent.pred0);
+            if difference.is_some() {
+                return Ok(difference);
+            }
+        }
+        Ok(None)
+    })?;
+    Ok(all && split)
+}
+
+/// The picture predicted from both lists, and whether all that the laws say of it holds.
 fn predict(pictures: &[Picture; 2], blocks: &[Moved]) -> Result<(Picture, bool), String> {
     let (w, h) = pictures[0].sides();
     let mut predicted = Picture::new(w, h).map_err(|e| e.to_string())?;
@@ -186,7 +221,7 @@ fn predict(pictures: &[Picture; 2], blocks: &[Moved]) -> Result<(Picture, bool),
         if way == BOTH {
             put(&mut predicted, &call.block, pred);
         }
-        Ok(general::difference(call, pictures, pred))
+        Ok(general::difference(call, pictures, pred, Place::Clipped))
     })?;
     for turn in Turn::ALL {
         let mirrored = turn.pictures(pictures).map_err(|e| e.to_string())?;
@@ -197,6 +232,7 @@ fn predict(pictures: &[Picture; 2], blocks: &[Moved]) -> Result<(Picture, bool),
             Ok(turn.difference(&call.block, pred, &lent.pred0))
         })?;
     }
+    all &= hold_to_w6(pictures, blocks)?;
     Ok((predicted, all))
 }
 

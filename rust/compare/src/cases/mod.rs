@@ -3,7 +3,9 @@
 pub mod block;
 pub mod clipping;
 pub mod demand3;
+pub mod invisible;
 pub mod one_plane;
+pub mod padded;
 pub mod padding;
 pub mod units;
 
