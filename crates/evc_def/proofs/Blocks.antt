@@ -50,26 +50,29 @@ both true true e = (tt, tt)
 both true false e = absurd (subst T e tt)
 both false b e = absurd (subst T e tt)
 
--- a picture and a block that no check refuses
-pub allowed : (b : EvcBlock) → badPicture (b .«pic_w») (b .«pic_h») ≡ false → badBlock b ≡ false → Allowed (b .«pic_w») (b .x) (b .w) × Allowed (b .«pic_h») (b .y) (b .h)
-unfolding badPicture badBlock
-allowed b p q =
-    let p₁ = both (isPictureSide (b .«pic_w»)) (isPictureSide (b .«pic_h»)) p in
-    let q₁ = both (isBlockSide (b .w) && isBlockSide (b .h) && isInside (b .«pic_w») (b .x) (b .w)) (isInside (b .«pic_h») (b .y) (b .h)) q in
-    let q₂ = and-yes (isBlockSide (b .w) && isBlockSide (b .h)) (isInside (b .«pic_w») (b .x) (b .w)) (q₁ .0) in
-    let q₃ = and-yes (isBlockSide (b .w)) (isBlockSide (b .h)) (q₂ .0) in (
-      allowed-side (b .«pic_w») (b .x) (b .w) (p₁ .0) (q₃ .0) (q₂ .1),
-      allowed-side (b .«pic_h») (b .y) (b .h) (p₁ .1) (q₃ .1) (q₁ .1),
-    )
-
--- a picture that holds a block is not too small
-pub large-enough : (b : EvcBlock) → badBlock b ≡ false → (4 ≤ b .«pic_w») × (4 ≤ b .«pic_h»)
+-- a block that the check does not refuse: sides, then place and extent
+pub block-is : (b : EvcBlock) → badBlock b ≡ false
+    → T (isBlockSide (b .w)) × T (isBlockSide (b .h)) × T (isInside (b .«pic_w») (b .x) (b .w)) × T (isInside (b .«pic_h») (b .y) (b .h))
 unfolding badBlock
-large-enough b q =
+block-is b q =
     let q₁ = both (isBlockSide (b .w) && isBlockSide (b .h) && isInside (b .«pic_w») (b .x) (b .w)) (isInside (b .«pic_h») (b .y) (b .h)) q in
     let q₂ = and-yes (isBlockSide (b .w) && isBlockSide (b .h)) (isInside (b .«pic_w») (b .x) (b .w)) (q₁ .0) in
     let q₃ = and-yes (isBlockSide (b .w)) (isBlockSide (b .h)) (q₂ .0) in
-    (at-least-4 (b .«pic_w») (b .x) (b .w) (q₃ .0) (q₂ .1), at-least-4 (b .«pic_h») (b .y) (b .h) (q₃ .1) (q₁ .1))
+    (q₃ .0, q₃ .1, q₂ .1, q₁ .1)
+
+-- a picture and a block that no check refuses
+pub allowed : (b : EvcBlock) → badPicture (b .«pic_w») (b .«pic_h») ≡ false → badBlock b ≡ false → Allowed (b .«pic_w») (b .x) (b .w) × Allowed (b .«pic_h») (b .y) (b .h)
+unfolding badPicture
+allowed b p q =
+    let p₁ = both (isPictureSide (b .«pic_w»)) (isPictureSide (b .«pic_h»)) p in
+    let o = block-is b q in
+    (allowed-side (b .«pic_w») (b .x) (b .w) (p₁ .0) (o .0) (o .2), allowed-side (b .«pic_h») (b .y) (b .h) (p₁ .1) (o .1) (o .3))
+
+-- a picture that holds a block is not too small
+pub large-enough : (b : EvcBlock) → badBlock b ≡ false → (4 ≤ b .«pic_w») × (4 ≤ b .«pic_h»)
+large-enough b q =
+    let o = block-is b q in
+    (at-least-4 (b .«pic_w») (b .x) (b .w) (o .0) (o .2), at-least-4 (b .«pic_h») (b .y) (b .h) (o .1) (o .3))
   where
     at-least-4 : (size place side : ℕ) → T (isBlockSide side) → T (isInside size place side) → 4 ≤ size
     at-least-4 size place side s i =
@@ -97,8 +100,8 @@ allowed-mirror size place side a =
       inside = omega arith;
     }
 
-inside-is : (size place side : ℕ) → Allowed size place side → isInside size place side ≡ true
-inside-is size place side a = ap₂ (λ (s t : Bool). s && t) (eq-eqb (place % 4) 0 (a .place-fours)) (le-leb (place + side) size (a .inside))
+pub inside-is : (size place side : ℕ) → place % 4 ≡ 0 → place + side ≤ size → isInside size place side ≡ true
+inside-is size place side e l = ap₂ (λ (s t : Bool). s && t) (eq-eqb (place % 4) 0 e) (le-leb (place + side) size l)
 
 -- its sides were accepted already
 pub accepted-at : (b : EvcBlock) (x y : ℕ) → firstOf (blockChecks b) ≡ 0 → Allowed (b .«pic_w») x (b .w) → Allowed (b .«pic_h») y (b .h)
@@ -109,7 +112,7 @@ accepted-at b x y e ax ay =
     let g = accepted 2 _ _ (omega arith) (f .1) in
     passed 1 _ _ (f .0)
     ∙ passed 2 _ _
-    (again (isBlockSide (b .w)) (isBlockSide (b .h)) (isInside (b .«pic_w») (b .x) (b .w)) (isInside (b .«pic_h») (b .y) (b .h)) _ _ (g .0) (inside-is (b .«pic_w») x (b .w) ax) (inside-is (b .«pic_h») y (b .h) ay))
+    (again (isBlockSide (b .w)) (isBlockSide (b .h)) (isInside (b .«pic_w») (b .x) (b .w)) (isInside (b .«pic_h») (b .y) (b .h)) _ _ (g .0) (inside-is (b .«pic_w») x (b .w) (ax .place-fours) (ax .inside)) (inside-is (b .«pic_h») y (b .h) (ay .place-fours) (ay .inside)))
     ∙ none
   where
     again : (w h x y x′ y′ : Bool) → not (w && h && x && y) ≡ false → x′ ≡ true → y′ ≡ true → not (w && h && x′ && y′) ≡ false

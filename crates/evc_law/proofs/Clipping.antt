@@ -24,7 +24,7 @@ use Rattle.evc_interp.proofs.Windows.{some-phase, phase-small}
 use Rattle.evc_clip.specs.Clip.{margin, clipComponent, clipMv, clippedPlace}
 use Rattle.evc_clip.proofs.Laws.{lastPlace, clipped-place}
 use Rattle.evc_law.specs.General.{tapped, general₁, general}
-use Rattle.evc_law.specs.Invisible.{exactPlace, Hidden, small, kept, raised, lowered}
+use Rattle.evc_law.specs.Invisible.{exactPlace, wholeSample, Hidden, small, kept, raised, lowered}
 use Rattle.evc_law.proofs.Phases.{tapped-whole, tapped-same}
 use Rattle.evc_law.proofs.Paths.{aligned-phase}
 
@@ -143,14 +143,14 @@ module _ (k : PlaneType) (W x w : ℕ) (ok : Allowed W x w) (f : ℤ → ℤ) (p
       far-low : Hidden k W x w mv → pos 4 *ℤ pos x +ℤ clipped ≡ − 256 → exact ⁺ + 256 < exact ⁻ → (sideOf k w ≤ 32) ⊎ (exact ⁺ + 260 ≤ exact ⁻)
       far-low (small n) e h = inl n
       far-low (kept q) e h = absurd (omega (arith, fact at (! (− 256)) e, fact (! clipped) (! mv) q, reading place .is))
-      far-low (raised l) e h = inr (omega (arith, fact at (! (− 256)) e, fact≤ (! mv ⊕ ! (pos 4)) (! clipped) l, reading place .is))
-      far-low (lowered l) e h = absurd (omega (arith, fact at (! (− 256)) e, fact≤ (! clipped ⊕ ! (pos 4)) (! mv) l, reading place .is))
+      far-low (raised l) e h = inr (omega (arith, fact at (! (− 256)) e, fact≤ (! mv ⊕ ! (pos wholeSample)) (! clipped) l, reading place .is))
+      far-low (lowered l) e h = absurd (omega (arith, fact at (! (− 256)) e, fact≤ (! clipped ⊕ ! (pos wholeSample)) (! mv) l, reading place .is))
 
       far-high : Hidden k W x w mv → pos 4 *ℤ pos x +ℤ clipped ≡ lastPlace W w → 4 * W + 256 + exact ⁻ < exact ⁺ + 4 * w → (sideOf k w ≤ 32) ⊎ (4 * W + 260 + exact ⁻ ≤ exact ⁺ + 4 * w)
       far-high (small n) e h = inl n
       far-high (kept q) e h = absurd (omega (arith, fact at top e, fact (! clipped) (! mv) q, reading place .is))
-      far-high (raised l) e h = absurd (omega (arith, fact at top e, fact≤ (! mv ⊕ ! (pos 4)) (! clipped) l, reading place .is))
-      far-high (lowered l) e h = inr (omega (arith, fact at top e, fact≤ (! clipped ⊕ ! (pos 4)) (! mv) l, reading place .is))
+      far-high (raised l) e h = absurd (omega (arith, fact at top e, fact≤ (! mv ⊕ ! (pos wholeSample)) (! clipped) l, reading place .is))
+      far-high (lowered l) e h = inr (omega (arith, fact at top e, fact≤ (! clipped ⊕ ! (pos wholeSample)) (! mv) l, reading place .is))
 
       go : (s t : Bool) → Tested (more place + 256) (0 + less place) s → Tested (more top + less place) (more place + less top) t → pos 4 *ℤ pos x +ℤ clipped ≡ cond s (− 256) (cond t (lastPlace W w) exact)
           → tapped k f (cond s (− 256) (cond t (lastPlace W w) exact)) c ≡ tapped k f exact c

@@ -1,19 +1,17 @@
 -- A block's quarters: the checks accept them, and the general filter at a place moved by whole samples is the filter as many samples further on. Assumes nothing.
-use mathlib.Core.Bool.{Bool, true, false, not, cond, _&&_, _||_}
-use mathlib.Core.Path.{_≡_, refl, sym, ap, ap₂, subst, _∙_}
+use mathlib.Core.Bool.{Bool, true, false, not, cond, _&&_}
+use mathlib.Core.Path.{_≡_, refl, ap, ap₂, _∙_}
 use Prim.Native.Nat.{ℕ, _+_, _*_, _/_, _%_, _≤_}
 use native.Mathlib.Omega.{arith}
 use lib.Dec.{T}
 use lib.IntN.{ℤ, pos, _+ℤ_, _*ℤ_}
-use borrow.Author.Tests.{eq-eqb, le-leb}
 use Rattle.evc_int.specs.Whole.{−_}
-use Rattle.evc_int.proofs.Bools.{both-true, all-true}
 use Rattle.evc_int.proofs.Division.{split, split-only, modulo-lt}
 use Rattle.evc_int.proofs.Expressions.{ !, _⊕_, _⊗_, neg, solve, fact}
-use Rattle.evc_def.specs.Blocks.{Allowed, isBlockSide, isInside, badBlock}
+use Rattle.evc_def.specs.Blocks.{isBlockSide, badBlock}
 use Rattle.evc_def.specs.Codes.{firstOf, blockChecks}
 use Rattle.evc_def.specs.declared.EvcBlock.{EvcBlock}
-use Rattle.evc_def.proofs.Blocks.{by-sides, allowed-block}
+use Rattle.evc_def.proofs.Blocks.{by-sides, block-is, allowed-block, inside-is}
 use Rattle.evc_def.proofs.Codes.{accepted, passed, none}
 use Rattle.evc_plane.specs.declared.PlaneType.{PlaneType}
 use Rattle.evc_plane.specs.declared.PlaneType.the-variants.{Y, UV}
@@ -34,10 +32,10 @@ use Rattle.evc_law.proofs.Phases.{tapSum-same, tapped-same}
 half-side : (n : ℕ) → T (isBlockSide n) → 8 ≤ n → (isBlockSide (n / 2) ≡ true) × (n % 8 ≡ 0)
 half-side = by-sides (λ (n : ℕ). 8 ≤ n → (isBlockSide (n / 2) ≡ true) × (n % 8 ≡ 0)) (λ h. absurd (omega arith)) (λ h. (refl, refl)) (λ h. (refl, refl)) (λ h. (refl, refl)) (λ h. (refl, refl))
 
--- either half of a side lies inside the picture
-half-inside : (size place side : ℕ) (far : Bool) → Allowed size place side → side % 8 ≡ 0 → isInside size (place + cond far (side / 2) 0) (side / 2) ≡ true
-half-inside size place side true a e = ap₂ (λ (s t : Bool). s && t) (eq-eqb ((place + side / 2) % 4) 0 (omega arith)) (le-leb (place + side / 2 + side / 2) size (omega arith))
-half-inside size place side false a e = ap₂ (λ (s t : Bool). s && t) (eq-eqb ((place + 0) % 4) 0 (omega arith)) (le-leb (place + 0 + side / 2) size (omega arith))
+-- where a half begins
+half-place : (far : Bool) (side : ℕ) → side % 8 ≡ 0 → (cond far (side / 2) 0 ≤ side / 2) × (cond far (side / 2) 0 % 4 ≡ 0)
+half-place true side e = (omega arith, omega arith)
+half-place false side e = (omega arith, omega arith)
 
 pub quarter-accepted : (b : EvcBlock) (right lower : Bool) → firstOf (blockChecks b) ≡ 0 → 8 ≤ b .w → 8 ≤ b .h → firstOf (blockChecks (quarterOf b right lower)) ≡ 0
 unfolding badBlock
@@ -45,14 +43,13 @@ quarter-accepted b right lower e hw hh =
     let o = allowed-block b e in
     let f = accepted 1 _ _ (omega arith) e in
     let g = accepted 2 _ _ (omega arith) (f .1) in
-    let sides = both-true (isBlockSide (b .w)) (isBlockSide (b .h))
-    (both-true (isBlockSide (b .w) && isBlockSide (b .h)) (isInside (b .«pic_w») (b .x) (b .w))
-    (all-true (isBlockSide (b .w) && isBlockSide (b .h) && isInside (b .«pic_w») (b .x) (b .w)) (isInside (b .«pic_h») (b .y) (b .h)) (g .0) .0) .0) in
-    let w = half-side (b .w) (subst T (sym (sides .0)) tt) hw in
-    let h = half-side (b .h) (subst T (sym (sides .1)) tt) hh in
-    passed 1 _ _ (f .0)
-    ∙ passed 2 _ _ (all _ _ _ _ (w .0) (h .0) (half-inside (b .«pic_w») (b .x) (b .w) right (o .0) (w .1)) (half-inside (b .«pic_h») (b .y) (b .h) lower (o .1) (h .1)))
-    ∙ none
+    let s = block-is b (g .0) in
+    let q = quarterOf b right lower in
+    let w = half-side (b .w) (s .0) hw in
+    let h = half-side (b .h) (s .1) hh in
+    let across = inside-is (q .«pic_w») (q .x) (q .w) (omega (arith, half-place right (b .w) (w .1))) (omega (arith, half-place right (b .w) (w .1))) in
+    let down = inside-is (q .«pic_h») (q .y) (q .h) (omega (arith, half-place lower (b .h) (h .1))) (omega (arith, half-place lower (b .h) (h .1))) in
+    passed 1 _ _ (f .0) ∙ passed 2 _ _ (all _ _ _ _ (w .0) (h .0) across down) ∙ none
   where
     all : (w h x y : Bool) → w ≡ true → h ≡ true → x ≡ true → y ≡ true → not (w && h && x && y) ≡ false
     all w h x y p q r s = rw (p, q, r, s) refl

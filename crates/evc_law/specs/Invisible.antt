@@ -151,13 +151,17 @@ Computed = OnEachSide 1 16 × OnEachSide 2 32 × OnEachSide 3 16
 
 -- ---- beyond W6: clipping shows nowhere else
 
+-- a luma sample, in the quarters that vectors count
+abbrev pub wholeSample : ℕ
+wholeSample = 4
+
 -- where it is hidden in one direction of a plane, W, x and w being the picture's side, the block's place and its side: the plane's block has at most 32 samples
 -- there, or clipping leaves the vector as it is, or raises or lowers it by a whole luma sample or more
 pub data Hidden (k : PlaneType) (W x w : ℕ) (mv : ℤ) : Type 0 where
   small : sideOf k w ≤ 32 → Hidden k W x w mv
   kept : clipComponent W x w mv ≡ mv → Hidden k W x w mv
-  raised : (mv +ℤ pos 4) ≤ℤ clipComponent W x w mv → Hidden k W x w mv
-  lowered : (clipComponent W x w mv +ℤ pos 4) ≤ℤ mv → Hidden k W x w mv
+  raised : (mv +ℤ pos wholeSample) ≤ℤ clipComponent W x w mv → Hidden k W x w mv
+  lowered : (clipComponent W x w mv +ℤ pos wholeSample) ≤ℤ mv → Hidden k W x w mv
 
 pub record HiddenList (k : PlaneType) (b : EvcBlock) (l : EvcList) : Type 0 where
   pub across : l .used ≡ true → Hidden k (b .«pic_w») (b .x) (b .w) (l .mv .x)

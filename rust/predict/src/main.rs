@@ -185,12 +185,7 @@ fn hold(
 fn hold_to_w6(pictures: &[Picture; 2], blocks: &[Moved]) -> Result<bool, String> {
     let mut hidden = Vec::new();
     for moved in blocks {
-        let is_hidden = |mv| splits::is_clipping_hidden(&moved.block, mv);
-        let [first, second] = moved.mv.map(is_hidden);
-        if first
-            .and_then(|first| Ok(first && second?))
-            .map_err(|e| e.to_string())?
-        {
+        if splits::is_clipping_hidden(moved).map_err(|e| e.to_string())? {
             hidden.push(*moved);
         }
     }

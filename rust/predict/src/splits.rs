@@ -1,13 +1,20 @@
 //! Document 02, W6: where clipping cannot be seen, and a block predicted as its four quarters.
 
-use evc_inter::{cu_plane, evc_mv_clip, EvcBlock, EvcMv, Refusal};
+use crate::blocks::Moved;
+use evc_inter::{cu_plane, evc_mv_clip, EvcBlock, Refusal};
 
-/// Clipping shows along a side of 64 alone, where it moves the vector by one to three quarter samples.
-pub fn is_clipping_hidden(b: &EvcBlock, mv: EvcMv) -> Result<bool, Refusal> {
-    let clipped = evc_mv_clip(*b, mv)?;
+/// Clipping shows along a side of 64 alone, where it moves a vector by one to three quarter samples.
+pub fn is_clipping_hidden(moved: &Moved) -> Result<bool, Refusal> {
+    let b = moved.block;
     let shows =
         |side: u32, mv: i16, clipped: i16| side == 64 && (1..=3).contains(&mv.abs_diff(clipped));
-    Ok(!shows(b.w, mv.x, clipped.x) && !shows(b.h, mv.y, clipped.y))
+    for mv in moved.mv {
+        let clipped = evc_mv_clip(b, mv)?;
+        if shows(b.w, mv.x, clipped.x) || shows(b.h, mv.y, clipped.y) {
+            return Ok(false);
+        }
+    }
+    Ok(true)
 }
 
 /// Upper left, upper right, lower left, lower right; none below sides of 8.
@@ -46,6 +53,7 @@ pub fn difference(b: &EvcBlock, whole: &[u16], n: usize, quarter: &[u16]) -> Opt
 #[cfg(test)]
 mod tests {
     use super::*;
+    use evc_inter::EvcMv;
 
     fn block(w: u32, h: u32) -> EvcBlock {
         EvcBlock {
@@ -67,16 +75,15 @@ mod tests {
             (64, 4, true),
             (32, 1, true),
         ] {
-            let low = EvcMv {
-                x: -256 - 4 * 8 - moved,
-                y: 0,
-            };
-            assert_eq!(is_clipping_hidden(&block(side, 4), low), Ok(want));
-            let high = EvcMv {
-                x: 0,
-                y: 4 * (128 + 64 - side as i16 - 4) + moved,
-            };
-            assert_eq!(is_clipping_hidden(&block(4, side), high), Ok(want));
+            // past the low limit across by list 0, past the high limit down by list 1
+            let (none, low) = (EvcMv::default(), -256 - 4 * 8 - moved);
+            let high = 4 * (128 + 64 - side as i16 - 4) + moved;
+            for (block, mv) in [
+                (block(side, 4), [EvcMv { x: low, y: 0 }, none]),
+                (block(4, side), [none, EvcMv { x: 0, y: high }]),
+            ] {
+                assert_eq!(is_clipping_hidden(&Moved { block, mv }), Ok(want));
+            }
         }
     }
 
