@@ -114,7 +114,7 @@ pub record Example (k : Call) : Type 0 where
 abbrev pub Counterexample : Type 0
 Counterexample = (k : Call) → Premises k → Accepted k → Example k → (y : ℕ) → y < k .block .h → (sample k luma 63 y ≡ 0) × (exactSample k luma 63 y ≡ 16)
 
--- and so do its right quarters, in their last column: they are not the block's samples
+-- its right quarters give 16 in their last column: the split shows too
 abbrev pub QuartersShow : Type 0
 QuartersShow =
     (k : Call) → Premises k → Accepted k → Example k → 8 ≤ k .block .h →
@@ -122,7 +122,7 @@ QuartersShow =
     let q = quarter k true lower pred0 pred1 in
     (y : ℕ) → y < q .block .h → sample q luma 31 y ≡ 16
 
--- by computation: luma sample x of row y of a block, by the clipped vector 0 and at the exact place another
+-- by computation: column x of row y of a block's luma is 0 at the clipped place and another number at the exact one
 abbrev pub Shows : EvcBlock → EvcMv → (ℕ → ℕ → ℕ) → ℕ → ℕ → ℕ → Type 0
 Shows b mv picture x y other =
     let s = reference picture (b .«pic_w») (b .«pic_h») in
@@ -131,19 +131,19 @@ Shows b mv picture x y other =
     (general Y s (clipped .x) (clipped .y) x y ≡ 0) × (general Y s (exact .x) (exact .y) x y ≡ other)
 
 -- blocks over the whole of a picture
-abbrev pub wide : EvcBlock
-wide = record { «pic_w» = 64; «pic_h» = 4; x = 0; y = 0; w = 64; h = 4 }
+abbrev pub wideBlock : EvcBlock
+wideBlock = record { «pic_w» = 64; «pic_h» = 4; x = 0; y = 0; w = 64; h = 4 }
 
-abbrev pub high : EvcBlock
-high = record { «pic_w» = 4; «pic_h» = 64; x = 0; y = 0; w = 4; h = 64 }
+abbrev pub highBlock : EvcBlock
+highBlock = record { «pic_w» = 4; «pic_h» = 64; x = 0; y = 0; w = 4; h = 64 }
 
--- d quarters of a sample past the limit, on the left and, its mirror images, on the right, above and below: the line next to the edge holds 1023, all others 0
+-- d quarters of a sample past the limit on the left, and its mirror images on the right, above and below: the line next to that edge's holds 1023, all others 0
 abbrev pub OnEachSide : ℕ → ℕ → Type 0
 OnEachSide d other =
-    Shows wide (record { x = − (256 + d); y = pos 0 }) (λ (i j : ℕ). cond (eqb i 1) 1023 0) 63 0 other
-    × Shows wide (record { x = pos (256 + d); y = pos 0 }) (λ (i j : ℕ). cond (eqb i 62) 1023 0) 0 0 other
-    × Shows high (record { x = pos 0; y = − (256 + d) }) (λ (i j : ℕ). cond (eqb j 1) 1023 0) 0 63 other
-    × Shows high (record { x = pos 0; y = pos (256 + d) }) (λ (i j : ℕ). cond (eqb j 62) 1023 0) 0 0 other
+    Shows wideBlock (record { x = − (256 + d); y = pos 0 }) (λ (i j : ℕ). cond (eqb i 1) 1023 0) 63 0 other
+    × Shows wideBlock (record { x = pos (256 + d); y = pos 0 }) (λ (i j : ℕ). cond (eqb i 62) 1023 0) 0 0 other
+    × Shows highBlock (record { x = pos 0; y = − (256 + d) }) (λ (i j : ℕ). cond (eqb j 1) 1023 0) 0 63 other
+    × Shows highBlock (record { x = pos 0; y = pos (256 + d) }) (λ (i j : ℕ). cond (eqb j 62) 1023 0) 0 0 other
 
 -- 1 quarter past it, as W6 says, and 2 and 3
 abbrev pub Computed : Type 0
