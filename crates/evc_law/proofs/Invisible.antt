@@ -11,7 +11,6 @@ use lib.ListN.{length}
 use Rattle.evc_int.specs.Whole.{−_, _⁺}
 use Rattle.evc_int.proofs.Expressions.{ !, _⊕_, _⊗_, solve, fact}
 use Rattle.evc_int.proofs.Division.{split-only}
-use Rattle.evc_def.specs.Blocks.{Allowed}
 use Rattle.evc_def.specs.declared.EvcBlock.{EvcBlock}
 use Rattle.evc_def.specs.declared.EvcMv.{EvcMv}
 use Rattle.evc_def.proofs.Blocks.{allowed-block}

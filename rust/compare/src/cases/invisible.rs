@@ -37,7 +37,7 @@ impl<const SIDE: u32> Case for UpTo<SIDE> {
     type Lent = Lent;
 
     fn batch(pic: [u32; 2], rng: &mut Rng) -> Vec<Self> {
-        // half of the pictures hold a side of 64
+        // half of the picture's sides have room for a block's side of 64
         let pic = pic.map(|n| if one_in(2, rng) { n.max(64) } else { n });
         let cases = PaddedCall::batch(pic, long_block, rng);
         cases.into_iter().map(UpTo).collect()
