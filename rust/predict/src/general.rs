@@ -86,8 +86,12 @@ pub fn difference(
         let got = cu_plane(pred0, c, b.w, b.h);
         let k = (0..got.len()).find(|k| got[*k] != want[*k])?;
         let plane = ['Y', 'U', 'V'][c];
+        let place = match which {
+            Place::Clipped => "clipped",
+            Place::Exact => "exact",
+        };
         Some(format!(
-            "plane {plane}, sample {k}: {} predicted, {} by the general filter",
+            "plane {plane}, sample {k}: {} predicted, {} by the general filter at the {place} place",
             got[k], want[k]
         ))
     })
