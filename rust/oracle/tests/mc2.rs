@@ -382,33 +382,37 @@ fn is_clipped(c: &BlockCall) -> bool {
     (0..2).any(|k| c.used[k] && is_moved(k))
 }
 
-const W6_PICTURES: [[u32; 2]; 4] = [[8, 12], [36, 64], [64, 64], [100, 84]];
-
-/// W6: "for sides of at most 32 clipping changes no sample compared with the exact unclipped place, and
-/// .. for chroma it never does"; along a side of 64 luma where it is hidden too.
-#[test]
-fn unclipped_place() {
-    let mut rng = Rng(38);
-    let (mut calls, mut clipped, mut shows) = (0, 0, 0);
-    for (k, &pic) in W6_PICTURES.iter().enumerate() {
+/// Calls for W6 in four pictures, with each use of the lists: the call, its planes, and what the blocks held.
+fn w6_calls(seed: u64, mut each: impl FnMut(&BlockCall, [&Planes; 2], &[Vec<u16>; 2])) {
+    let mut rng = Rng(seed);
+    for (k, &pic) in [[8, 12], [36, 64], [64, 64], [100, 84]].iter().enumerate() {
         let planes = [(); 2].map(|_| Planes::new(pic, k % 2 == 0, &mut rng).padded());
         let old = old_blocks(&mut rng);
         for used in USES {
             for _ in 0..400 {
                 let (c, which) = w6(pic, used, &mut rng);
-                let planes = which.map(|k| &planes[k]);
-                let lists = c.lists(planes.map(Planes::slices));
-                let exact = model::exact_block(&c.b, &lists);
-                let got = rust_predicted(&c, planes, &old);
-                for k in (0..3).filter(|k| c.b.is_clipping_hidden(&lists, *k)) {
-                    assert_eq!(got[k], exact[k], "{c:?}, plane {k}");
-                }
-                calls += 1;
-                clipped += usize::from(is_clipped(&c));
-                shows += usize::from(got != exact);
+                each(&c, which.map(|k| &planes[k]), &old);
             }
         }
     }
+}
+
+/// W6: "for sides of at most 32 clipping changes no sample compared with the exact unclipped place, and
+/// .. for chroma it never does"; along a side of 64 luma where it is hidden too.
+#[test]
+fn unclipped_place() {
+    let (mut calls, mut clipped, mut shows) = (0, 0, 0);
+    w6_calls(38, |c, planes, old| {
+        let lists = c.lists(planes.map(Planes::slices));
+        let exact = model::exact_block(&c.b, &lists);
+        let got = rust_predicted(c, planes, old);
+        for k in (0..3).filter(|k| c.b.is_clipping_hidden(&lists, *k)) {
+            assert_eq!(got[k], exact[k], "{c:?}, plane {k}");
+        }
+        calls += 1;
+        clipped += usize::from(is_clipped(c));
+        shows += usize::from(got != exact);
+    });
     assert_eq!((calls, clipped, shows), (4800, 4171, 372));
 }
 
@@ -416,38 +420,28 @@ fn unclipped_place() {
 /// and vectors)", where clipping is hidden.
 #[test]
 fn quarters() {
-    let mut rng = Rng(39);
     let (mut calls, mut clipped) = (0, 0);
-    for (k, &pic) in W6_PICTURES.iter().enumerate() {
-        let planes = [(); 2].map(|_| Planes::new(pic, k % 2 == 0, &mut rng).padded());
-        let old = old_blocks(&mut rng);
-        for used in USES {
-            for _ in 0..400 {
-                let (c, which) = w6(pic, used, &mut rng);
-                let planes = which.map(|k| &planes[k]);
-                let is_hidden =
-                    c.b.is_clipping_hidden(&c.lists(planes.map(Planes::slices)), 0);
-                let quarters = match c.b.quarters() {
-                    Some(quarters) if is_hidden => quarters,
-                    _ => continue,
-                };
-                let whole = rust_predicted(&c, planes, &old);
-                for (n, b) in quarters.iter().enumerate() {
-                    let quarter = rust_predicted(&BlockCall { b: *b, ..c }, planes, &old);
-                    for k in 0..3 {
-                        let [w, h] = b.side.map(|n| n as usize >> k.min(1));
-                        let [left, top] = [n % 2 * w, n / 2 * h];
-                        let rows = whole[k].chunks(2 * w).skip(top).take(h);
-                        let part: Vec<&u16> = rows.flat_map(|row| &row[left..left + w]).collect();
-                        let quarter: Vec<&u16> = quarter[k].iter().collect();
-                        assert_eq!(quarter, part, "{c:?}, quarter {n}, plane {k}");
-                    }
-                }
-                calls += 1;
-                clipped += usize::from(is_clipped(&c));
+    w6_calls(39, |c, planes, old| {
+        let lists = c.lists(planes.map(Planes::slices));
+        let quarters = match c.b.quarters() {
+            Some(quarters) if c.b.is_clipping_hidden(&lists, 0) => quarters,
+            _ => return,
+        };
+        let whole = rust_predicted(c, planes, old);
+        for (n, b) in quarters.iter().enumerate() {
+            let quarter = rust_predicted(&BlockCall { b: *b, ..*c }, planes, old);
+            for k in 0..3 {
+                let [w, h] = b.side.map(|n| n as usize >> k.min(1));
+                let [left, top] = [n % 2 * w, n / 2 * h];
+                let rows = whole[k].chunks(2 * w).skip(top).take(h);
+                let part: Vec<&u16> = rows.flat_map(|row| &row[left..left + w]).collect();
+                let quarter: Vec<&u16> = quarter[k].iter().collect();
+                assert_eq!(quarter, part, "{c:?}, quarter {n}, plane {k}");
             }
         }
-    }
+        calls += 1;
+        clipped += usize::from(is_clipped(c));
+    });
     assert_eq!((calls, clipped), (2175, 1854));
 }
 
