@@ -87,7 +87,7 @@ zero-phase UV = refl
 -- ---- a line prolonged by its edge samples
 
 -- f reads a line of N samples: its sample at i is that at i held to 0 .. N - 1
-abbrev pub Prolonged : ℕ → (ℤ → ℤ) → Type 0
+abbrev Prolonged : ℕ → (ℤ → ℤ) → Type 0
 Prolonged N f = (i i′ : ℤ) → min (i ⁺) (N - 1) ≡ min (i′ ⁺) (N - 1) → f i ≡ f i′
 
 module _ (k : PlaneType) (W x w : ℕ) (ok : Allowed W x w) (f : ℤ → ℤ) (prolonged : Prolonged (sideOf k W) f) (c : ℕ) (lc : c < sideOf k w) where
@@ -119,7 +119,7 @@ module _ (k : PlaneType) (W x w : ℕ) (ok : Allowed W x w) (f : ℤ → ℤ) (p
       let q = (W + margin - w) / 4 in
       aligned-phase k (lastPlace W w) (pos q) (pos 0) (solve (! (pos 4) ⊗ (! (pos W) ⊕ ! (pos margin) ⊖ ! (pos w))) (! (pos 16) ⊗ ! (pos q) ⊕ ! (pos 0)) (omega arith)) (zero-phase k)
 
-  pub tapped-clipped : (mv : ℤ) → Hidden k W x w mv → tapped k f (pos 4 *ℤ pos x +ℤ clipComponent W x w mv) c ≡ tapped k f (pos 4 *ℤ pos x +ℤ mv) c
+  tapped-clipped : (mv : ℤ) → Hidden k W x w mv → tapped k f (pos 4 *ℤ pos x +ℤ clipComponent W x w mv) c ≡ tapped k f (pos 4 *ℤ pos x +ℤ mv) c
   unfolding clip3
   tapped-clipped mv hidden =
       let e = clipped-place W x w mv (omega arith) in

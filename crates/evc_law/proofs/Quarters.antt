@@ -57,7 +57,7 @@ quarter-accepted b right lower e hw hh =
 -- ---- a place moved by whole samples
 
 module _ (k : PlaneType) where
-  pub shift : (p p′ : ℤ) (d : ℕ) → p′ ≡ p +ℤ pos (phases k * d) → (placeOf k p′ ≡ placeOf k p +ℤ pos d) × (phaseOf k p′ ≡ phaseOf k p)
+  shift : (p p′ : ℤ) (d : ℕ) → p′ ≡ p +ℤ pos (phases k * d) → (placeOf k p′ ≡ placeOf k p +ℤ pos d) × (phaseOf k p′ ≡ phaseOf k p)
   unfolding phaseOf placeOf
   shift p p′ d e =
       let m = phases k in
