@@ -29,26 +29,43 @@ by-sides P p4 p8 p16 p32 p64 n t =
 side-is : (n : ℕ) → T (isBlockSide n) → (4 ≤ n) × (n ≤ 64) × (n % 4 ≡ 0)
 side-is = by-sides (λ (n : ℕ). (4 ≤ n) × (n ≤ 64) × (n % 4 ≡ 0)) (omega arith) (omega arith) (omega arith) (omega arith) (omega arith)
 
-allowed-side : (size place side : ℕ) → T (isPictureSide size) → T (isBlockSide side) → T (isInside size place side) → Allowed size place side
-allowed-side size place side p s i =
-    let b = side-is side s in
-    let p₁ = and-yes (leb 4 size && leb size 8128) (eqb (size % 4) 0) p in
-    let p₂ = and-yes (leb 4 size) (leb size 8128) (p₁ .0) in
-    let i₁ = and-yes (eqb (place % 4) 0) (leb (place + side) size) i in
-    record {
-      size-fours = eqb→eq (size % 4) 0 (p₁ .1);
-      place-fours = eqb→eq (place % 4) 0 (i₁ .0);
-      side-fours = b .2;
-      size-high = leb→le size 8128 (p₂ .1);
-      side-low = b .0;
-      side-high = b .1;
-      inside = leb→le (place + side) size (i₁ .1);
-    }
+-- ---- a picture's sides
+
+pub record PictureSide (n : ℕ) : Type 0 where
+  pub low : 4 ≤ n
+  pub top : n ≤ 8128
+  pub fours : n % 4 ≡ 0
+
+picture-side : (n : ℕ) → T (isPictureSide n) → PictureSide n
+picture-side n t =
+    let a = and-yes (leb 4 n && leb n 8128) (eqb (n % 4) 0) t in
+    let b = and-yes (leb 4 n) (leb n 8128) (a .0) in
+    record { low = leb→le 4 n (b .0); top = leb→le n 8128 (b .1); fours = eqb→eq (n % 4) 0 (a .1) }
 
 both : (a b : Bool) → not (a && b) ≡ false → T a × T b
 both true true e = (tt, tt)
 both true false e = absurd (subst T e tt)
 both false b e = absurd (subst T e tt)
+
+pub picture-sides : (W H : ℕ) → badPicture W H ≡ false → PictureSide W × PictureSide H
+unfolding badPicture
+picture-sides W H e = let b = both (isPictureSide W) (isPictureSide H) e in (picture-side W (b .0), picture-side H (b .1))
+
+-- ---- a block
+
+allowed-side : (size place side : ℕ) → PictureSide size → T (isBlockSide side) → T (isInside size place side) → Allowed size place side
+allowed-side size place side p s i =
+    let b = side-is side s in
+    let i₁ = and-yes (eqb (place % 4) 0) (leb (place + side) size) i in
+    record {
+      size-fours = p .fours;
+      place-fours = eqb→eq (place % 4) 0 (i₁ .0);
+      side-fours = b .2;
+      size-high = p .top;
+      side-low = b .0;
+      side-high = b .1;
+      inside = leb→le (place + side) size (i₁ .1);
+    }
 
 -- a block that the check does not refuse: sides, then place and extent
 pub block-is : (b : EvcBlock) → badBlock b ≡ false
@@ -62,9 +79,8 @@ block-is b q =
 
 -- a picture and a block that no check refuses
 pub allowed : (b : EvcBlock) → badPicture (b .«pic_w») (b .«pic_h») ≡ false → badBlock b ≡ false → Allowed (b .«pic_w») (b .x) (b .w) × Allowed (b .«pic_h») (b .y) (b .h)
-unfolding badPicture
 allowed b p q =
-    let p₁ = both (isPictureSide (b .«pic_w»)) (isPictureSide (b .«pic_h»)) p in
+    let p₁ = picture-sides (b .«pic_w») (b .«pic_h») p in
     let o = block-is b q in
     (allowed-side (b .«pic_w») (b .x) (b .w) (p₁ .0) (o .0) (o .2), allowed-side (b .«pic_h») (b .y) (b .h) (p₁ .1) (o .1) (o .3))
 

@@ -8,11 +8,16 @@ ghost use Rattle.evc_plane.specs.Padding.{padCode, padAfter};
 ghost use Rattle.evc_interp.specs.Prediction.{mcPlaneCode, mcPlaneAfter};
 ghost use Rattle.evc_mc.specs.Block.{refPicList, mc2Code, mc2First, mc2Second};
 ghost use Rattle.evc_inter.specs.Kinds.{planeType};
+ghost use Rattle.evc_trace.specs.Format.{writeHeaderCode, writeHeaderAfter, writeRecordCode, writeRecordAfter};
+ghost use Rattle.evc_replay.specs.Record.{planes};
+ghost use Rattle.evc_replay.specs.Replay.{replayed};
 use evc_clip::EvcClipped;
 use evc_def::EvcBlock;
 use evc_def::EvcMv;
 use evc_mc::EvcList;
 use evc_plane::PlaneType;
+use evc_replay::EvcReplay;
+use evc_trace::EvcTraceRecord;
 use evc_util::EvcAvail;
 use evc_util::EvcCandidates;
 use evc_util::EvcDirect;
@@ -138,5 +143,57 @@ pub extern "C" fn evc_mc2(
     ensures { λ _. ⌜ now (pred0 .exit) ≡ mc2First block (refPicList list0 (now (y0 .entry)) (now (u0 .entry)) (now (v0 .entry))) (refPicList list1 (now (y1 .entry)) (now (u1 .entry)) (now (v1 .entry))) (now (pred0 .entry)) (now (pred1 .entry)) ⌝ }
     ensures { λ _. ⌜ now (pred1 .exit) ≡ mc2Second block (refPicList list0 (now (y0 .entry)) (now (u0 .entry)) (now (v0 .entry))) (refPicList list1 (now (y1 .entry)) (now (u1 .entry)) (now (v1 .entry))) (now (pred0 .entry)) (now (pred1 .entry)) ⌝ }
 {
-    evc_mc::evc_mc2(block, list0, y0, u0, v0, list1, y1, u1, v1, pred0, pred1)
+    evc_mc::evc_mc2(
+        block, list0, &*y0, &*u0, &*v0, list1, &*y1, &*u1, &*v1, pred0, pred1,
+    )
+}
+
+// The header of a trace.
+#[no_mangle]
+pub extern "C" fn evc_trace_write_header(
+    pic_w: u32,
+    pic_h: u32,
+    poc: u16,
+    list_poc0: u16,
+    out: &mut [u8],
+) -> u32
+    ensures { λ r. ⌜ r ≡ writeHeaderCode «pic_w» «pic_h» (now (out .entry)) ⌝ }
+    ensures { λ _. ⌜ now (out .exit) ≡ writeHeaderAfter (record { «pic_w» = «pic_w»; «pic_h» = «pic_h»; poc = poc; «list_poc0» = «list_poc0» }) (now (out .entry)) ⌝ }
+{
+    evc_trace::evc_trace_write_header(pic_w, pic_h, poc, list_poc0, out)
+}
+
+// A record of a trace.
+#[no_mangle]
+pub extern "C" fn evc_trace_write_record(
+    pic_w: u32,
+    pic_h: u32,
+    rec: EvcTraceRecord,
+    out: &mut [u8],
+) -> u32
+    ensures { λ r. ⌜ r ≡ writeRecordCode «pic_w» «pic_h» rec (now (out .entry)) ⌝ }
+    ensures { λ _. ⌜ now (out .exit) ≡ writeRecordAfter «pic_w» «pic_h» rec (now (out .entry)) ⌝ }
+{
+    evc_trace::evc_trace_write_record(pic_w, pic_h, rec, out)
+}
+
+// A trace's records, replayed into the target.
+#[no_mangle]
+pub extern "C" fn evc_trace_replay(
+    trace: &[u8],
+    y0: &[u16],
+    u0: &[u16],
+    v0: &[u16],
+    y1: &[u16],
+    u1: &[u16],
+    v1: &[u16],
+    has_col: bool,
+    col_mv: &[i16],
+    y: &mut [u16],
+    u: &mut [u16],
+    v: &mut [u16],
+) -> EvcReplay
+    ensures { λ r. ⌜ record { answer = r; target = planes (now (y .exit)) (now (u .exit)) (now (v .exit)) } ≡ replayed (now (trace .entry)) (planes (now (y0 .entry)) (now (u0 .entry)) (now (v0 .entry))) (planes (now (y1 .entry)) (now (u1 .entry)) (now (v1 .entry))) «has_col» (now («col_mv» .entry)) (planes (now (y .entry)) (now (u .entry)) (now (v .entry))) ⌝ }
+{
+    evc_replay::evc_trace_replay(trace, y0, u0, v0, y1, u1, v1, has_col, col_mv, y, u, v)
 }

@@ -64,7 +64,7 @@ fn copy_pair(s: &[u16], at: usize, d: &mut [u16], to: usize)
 }
 
 // All samples of a lane are read before one is written, so that each is one vector.
-fn copy_row(s: &[u16], n: usize, d: &mut [u16], to: usize)
+pub fn copy_row(s: &[u16], n: usize, d: &mut [u16], to: usize)
     requires { ⌜ (n ≤ length (now s)) × (to + n ≤ length (now d)) × (isRowWidth n ≡ true) ⌝ }
     ensures { λ _. ⌜ now (d .exit) ≡ withRow (now (d .entry)) to n (λ (x : ℕ). getD (now (s .entry)) x 0) ⌝ }
 {

@@ -92,13 +92,13 @@ firstSample b l m c y x =
 abbrev pub predLen : ℕ
 predLen = 6144
 
--- 4: "a buffer that is needed is too short"; "A list not in use may lend empty buffers, unread."
+-- 4: "a buffer that is needed is too short": one of the three planes of a picture
+abbrev pub planesShort : ℕ → ℕ → List ℕ → List ℕ → List ℕ → Bool
+planesShort W H y u v = ltb (length y) (planeLen Y W H) || ltb (length u) (planeLen UV W H) || ltb (length v) (planeLen UV W H)
+
+-- "A list not in use may lend empty buffers, unread."
 unfoldable pub listShort : EvcBlock → RefPicList → Bool
-listShort b l =
-    l .list .used
-    && (ltb (length (l .y)) (planeLen Y (b .«pic_w») (b .«pic_h»))
-    || ltb (length (l .u)) (planeLen UV (b .«pic_w») (b .«pic_h»))
-    || ltb (length (l .v)) (planeLen UV (b .«pic_w») (b .«pic_h»)))
+listShort b l = l .list .used && planesShort (b .«pic_w») (b .«pic_h») (l .y) (l .u) (l .v)
 
 -- 5: "an order count in use exceeds 32,767"
 abbrev pub pocExceeds : EvcList → Bool

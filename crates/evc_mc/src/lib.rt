@@ -12,7 +12,7 @@ ghost use Rattle.evc_def.specs.Blocks.{badPicture};
 ghost use Rattle.evc_def.specs.Codes.{firstOf, blockChecks};
 ghost use Rattle.evc_clip.specs.Clip.{clippedPlace};
 ghost use Rattle.evc_interp.specs.Code.{Readable, sampleFrom};
-ghost use Rattle.evc_mc.specs.Block.{refPicList, Component, withSamples, listSample, firstSample, isBi, average, predLen, listShort, pocExceeds, listExceeds, mc2Code, mc2First, mc2Second};
+ghost use Rattle.evc_mc.specs.Block.{refPicList, Component, withSamples, listSample, firstSample, isBi, average, predLen, planesShort, listShort, pocExceeds, listExceeds, mc2Code, mc2First, mc2Second};
 ghost use Rattle.evc_mc.specs.Steps.{either, ListExamined, withList, blockSample, RowSmall, BlockSmall};
 use evc_def::EvcBlock;
 use evc_def::EvcMv;
@@ -54,13 +54,20 @@ fn clipped_place(b: EvcBlock, mv: EvcMv) -> EvcMv
 
 const PRED_LEN: usize = 6144;
 
+pub fn planes_short(pic_w: u32, pic_h: u32, y: &[u16], u: &[u16], v: &[u16]) -> bool
+    requires { ⌜ badPicture «pic_w» «pic_h» ≡ false ⌝ }
+    ensures { λ r. ⌜ r ≡ planesShort «pic_w» «pic_h» (now (y .entry)) (now (u .entry)) (now (v .entry)) ⌝ }
+{
+    let luma = evc_plane::plane_len(PlaneType::Y, pic_w, pic_h);
+    let chroma = evc_plane::plane_len(PlaneType::UV, pic_w, pic_h);
+    (y.len() < luma) | (u.len() < chroma) | (v.len() < chroma)
+}
+
 fn list_short(b: EvcBlock, list: EvcList, y: &[u16], u: &[u16], v: &[u16]) -> bool
     requires { ⌜ badPicture (b .«pic_w») (b .«pic_h») ≡ false ⌝ }
     ensures { λ r. ⌜ r ≡ listShort b (refPicList list (now (y .entry)) (now (u .entry)) (now (v .entry))) ⌝ }
 {
-    let luma = evc_plane::plane_len(PlaneType::Y, b.pic_w, b.pic_h);
-    let chroma = evc_plane::plane_len(PlaneType::UV, b.pic_w, b.pic_h);
-    list.used & ((y.len() < luma) | (u.len() < chroma) | (v.len() < chroma))
+    list.used & planes_short(b.pic_w, b.pic_h, y, u, v)
 }
 
 fn poc_exceeds(list: EvcList) -> bool
@@ -69,45 +76,51 @@ fn poc_exceeds(list: EvcList) -> bool
     list.used & (MAX_POC < list.poc)
 }
 
-fn list_exceeds(b: EvcBlock, list: EvcList, y: &[u16], u: &[u16], v: &[u16]) -> bool
-    requires { ⌜ firstOf (blockChecks b) ≡ 0 ⌝ }
+fn list_exceeds(
+    b: EvcBlock,
+    list: EvcList,
+    gmv: EvcMv,
+    y: &[u16],
+    u: &[u16],
+    v: &[u16],
+) -> bool
+    requires { ⌜ (firstOf (blockChecks b) ≡ 0) × (gmv ≡ clippedPlace b (list .mv)) ⌝ }
     requires { ⌜ listShort b (refPicList list (now y) (now u) (now v)) ≡ false ⌝ }
     ensures { λ r. ⌜ r ≡ listExceeds b (refPicList list (now (y .entry)) (now (u .entry)) (now (v .entry))) ⌝ }
 {
     if !list.used {
         return false;
     }
-    let gmv = clipped_place(b, list.mv);
     let w = b.w / 2;
     let h = b.h / 2;
     evc_interp::window_exceeds(PlaneType::Y, b.pic_w, b.pic_h, gmv, b.w, b.h, &*y)
         | evc_interp::windows_exceed(PlaneType::UV, b.pic_w, b.pic_h, gmv, w, h, &*u, &*v)
 }
 
+// 3 to 6, of a block that is allowed.
 fn mc2_code(
     b: EvcBlock,
     list0: EvcList,
+    gmv0: EvcMv,
     y0: &[u16],
     u0: &[u16],
     v0: &[u16],
     list1: EvcList,
+    gmv1: EvcMv,
     y1: &[u16],
     u1: &[u16],
     v1: &[u16],
     pred0: &[u16],
     pred1: &[u16],
 ) -> u32
+    requires { ⌜ (firstOf (blockChecks b) ≡ 0) × (gmv0 ≡ clippedPlace b (list0 .mv)) × (gmv1 ≡ clippedPlace b (list1 .mv)) ⌝ }
     ensures { λ r. ⌜ r ≡ mc2Code b (refPicList list0 (now (y0 .entry)) (now (u0 .entry)) (now (v0 .entry))) (refPicList list1 (now (y1 .entry)) (now (u1 .entry)) (now (v1 .entry))) (now (pred0 .entry)) (now (pred1 .entry)) ⌝ }
 {
-    let block_code = evc_def::block_code(b);
-    if block_code != 0 {
-        return block_code;
-    }
     if !(list0.used | list1.used) {
         return 3;
     }
-    if list_short(b, list0, y0, u0, v0)
-        | list_short(b, list1, y1, u1, v1)
+    if list_short(b, list0, &*y0, &*u0, &*v0)
+        | list_short(b, list1, &*y1, &*u1, &*v1)
         | (pred0.len() < PRED_LEN)
         | (pred1.len() < PRED_LEN)
     {
@@ -116,7 +129,9 @@ fn mc2_code(
     if poc_exceeds(list0) | poc_exceeds(list1) {
         return 5;
     }
-    if list_exceeds(b, list0, y0, u0, v0) | list_exceeds(b, list1, y1, u1, v1) {
+    if list_exceeds(b, list0, gmv0, &*y0, &*u0, &*v0)
+        | list_exceeds(b, list1, gmv1, &*y1, &*u1, &*v1)
+    {
         return 6;
     }
     0
@@ -293,29 +308,32 @@ fn same_motion(list0: EvcList, gmv0: EvcMv, list1: EvcList, gmv1: EvcMv) -> bool
 fn predict_lists(
     b: EvcBlock,
     list0: EvcList,
+    gmv0: EvcMv,
     y0: &[u16],
     u0: &[u16],
     v0: &[u16],
     list1: EvcList,
+    gmv1: EvcMv,
     y1: &[u16],
     u1: &[u16],
     v1: &[u16],
     pred0: &mut [u16],
     pred1: &mut [u16],
 )
+    requires { ⌜ (gmv0 ≡ clippedPlace b (list0 .mv)) × (gmv1 ≡ clippedPlace b (list1 .mv)) ⌝ }
     requires { ⌜ mc2Code b (refPicList list0 (now y0) (now u0) (now v0)) (refPicList list1 (now y1) (now u1) (now v1)) (now pred0) (now pred1) ≡ 0 ⌝ }
     ensures { λ _. ⌜ now (pred0 .exit) ≡ withSamples b (firstSample b (refPicList list0 (now (y0 .entry)) (now (u0 .entry)) (now (v0 .entry))) (refPicList list1 (now (y1 .entry)) (now (u1 .entry)) (now (v1 .entry)))) (now (pred0 .entry)) ⌝ }
     ensures { λ _. ⌜ now (pred1 .exit) ≡ cond (isBi b list0 list1) (withSamples b (listSample b (refPicList list1 (now (y1 .entry)) (now (u1 .entry)) (now (v1 .entry)))) (now (pred1 .entry))) (now (pred1 .entry)) ⌝ }
 {
-    let gmv0 = clipped_place(b, list0.mv);
-    let gmv1 = clipped_place(b, list1.mv);
     let both = list0.used & list1.used;
-    predict_list(b, list0, gmv0, y0, u0, v0, pred0, pred1, false);
+    predict_list(b, list0, gmv0, &*y0, &*u0, &*v0, pred0, pred1, false);
     // Identical motion: list 0 alone stands.
     if both & same_motion(list0, gmv0, list1, gmv1) {
         return;
     }
-    predict_list(b, list1, gmv1, y1, u1, v1, pred0, pred1, list0.used);
+    predict_list(
+        b, list1, gmv1, &*y1, &*u1, &*v1, pred0, pred1, list0.used,
+    );
     if both {
         average_block(b, pred0, pred1);
     }
@@ -338,10 +356,20 @@ pub fn evc_mc2(
     ensures { λ _. ⌜ now (pred0 .exit) ≡ mc2First block (refPicList list0 (now (y0 .entry)) (now (u0 .entry)) (now (v0 .entry))) (refPicList list1 (now (y1 .entry)) (now (u1 .entry)) (now (v1 .entry))) (now (pred0 .entry)) (now (pred1 .entry)) ⌝ }
     ensures { λ _. ⌜ now (pred1 .exit) ≡ mc2Second block (refPicList list0 (now (y0 .entry)) (now (u0 .entry)) (now (v0 .entry))) (refPicList list1 (now (y1 .entry)) (now (u1 .entry)) (now (v1 .entry))) (now (pred0 .entry)) (now (pred1 .entry)) ⌝ }
 {
-    let code = mc2_code(block, list0, y0, u0, v0, list1, y1, u1, v1, pred0, pred1);
+    let block_code = evc_def::block_code(block);
+    if block_code != 0 {
+        return block_code;
+    }
+    let gmv0 = clipped_place(block, list0.mv);
+    let gmv1 = clipped_place(block, list1.mv);
+    let code = mc2_code(
+        block, list0, gmv0, &*y0, &*u0, &*v0, list1, gmv1, &*y1, &*u1, &*v1, pred0, pred1,
+    );
     if code != 0 {
         return code;
     }
-    predict_lists(block, list0, y0, u0, v0, list1, y1, u1, v1, pred0, pred1);
+    predict_lists(
+        block, list0, gmv0, &*y0, &*u0, &*v0, list1, gmv1, &*y1, &*u1, &*v1, pred0, pred1,
+    );
     code
 }

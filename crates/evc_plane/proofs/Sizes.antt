@@ -1,40 +1,17 @@
 -- The sizes of a plane whose picture is accepted, as inequalities: what fits, and that nothing wraps. Assumes nothing.
-use mathlib.Core.Bool.{Bool, true, false, not, _&&_}
+use mathlib.Core.Bool.{false}
 use mathlib.Core.Path.{_≡_, sym, ap, subst, _∙_}
-use Prim.Native.Nat.{ℕ, _+_, _*_, _%_, _≤_}
+use Prim.Native.Nat.{ℕ, _+_, _*_, _≤_}
 use native.Mathlib.Omega.{arith}
 use native.Mathlib.Nat.{mul-le-mul, mul-le-mul-right}
-use lib.Dec.{T, leb, eqb, leb→le, eqb→eq}
-use mir.Facts.{and-yes}
-use Rattle.evc_def.specs.Blocks.{isPictureSide, badPicture}
+use Rattle.evc_def.specs.Blocks.{badPicture}
+use Rattle.evc_def.proofs.Blocks.{PictureSide, picture-sides}
 use Rattle.evc_plane.specs.declared.PlaneType.{PlaneType}
 use Rattle.evc_plane.specs.declared.PlaneType.the-variants.{Y, UV}
 use Rattle.evc_plane.specs.declared.PlaneConfig.{PlaneConfig}
 use Rattle.evc_plane.specs.Planes.{originOf, strideOf, rowsOf, planeLen, configOf}
 
--- ---- an accepted picture
-
-pub record Side (n : ℕ) : Type 0 where
-  pub low : 4 ≤ n
-  pub top : n ≤ 8128
-  pub fours : n % 4 ≡ 0
-
-side-of : (n : ℕ) → T (isPictureSide n) → Side n
-side-of n t =
-    let a = and-yes (leb 4 n && leb n 8128) (eqb (n % 4) 0) t in
-    let b = and-yes (leb 4 n) (leb n 8128) (a .0) in
-    record { low = leb→le 4 n (b .0); top = leb→le n 8128 (b .1); fours = eqb→eq (n % 4) 0 (a .1) }
-
-pub sides : (W H : ℕ) → badPicture W H ≡ false → Side W × Side H
-unfolding badPicture
-sides W H e = let b = both (isPictureSide W) (isPictureSide H) e in (side-of W (b .0), side-of H (b .1))
-  where
-    both : (a b : Bool) → not (a && b) ≡ false → T a × T b
-    both true true e = (tt, tt)
-    both true false e = absurd (subst T e tt)
-    both false b e = absurd (subst T e tt)
-
--- ---- its planes
+-- ---- the planes of an accepted picture
 
 pub record Sizes (c : PlaneConfig) : Type 0 where
   pub wide : 2 ≤ c .width
@@ -49,23 +26,23 @@ pub record Sizes (c : PlaneConfig) : Type 0 where
   pub down : c .«alloc_height» ≡ c .yorigin + c .height + c .yorigin
   pub len-top : c .stride * c .«alloc_height» ≤ 8288 * 8288
 
-stride-high : (k : PlaneType) (W : ℕ) → Side W → strideOf k W ≤ 8288
+stride-high : (k : PlaneType) (W : ℕ) → PictureSide W → strideOf k W ≤ 8288
 unfolding originOf strideOf
 stride-high Y W w = omega arith
 stride-high UV W w = omega arith
 
-rows-high : (k : PlaneType) (H : ℕ) → Side H → rowsOf k H ≤ 8288
+rows-high : (k : PlaneType) (H : ℕ) → PictureSide H → rowsOf k H ≤ 8288
 unfolding rowsOf
 rows-high Y H h = omega arith
 rows-high UV H h = omega arith
 
-sizes′ : (k : PlaneType) (W H : ℕ) → Side W → Side H → strideOf k W * rowsOf k H ≤ 8288 * 8288 → Sizes (configOf k W H)
+sizes′ : (k : PlaneType) (W H : ℕ) → PictureSide W → PictureSide H → strideOf k W * rowsOf k H ≤ 8288 * 8288 → Sizes (configOf k W H)
 unfolding originOf strideOf rowsOf configOf
 sizes′ Y W H w h l = omega arith
 sizes′ UV W H w h l = omega arith
 
 pub sizes : (k : PlaneType) (W H : ℕ) → badPicture W H ≡ false → Sizes (configOf k W H)
-sizes k W H e = let b = sides W H e in sizes′ k W H (b .0) (b .1) (mul-le-mul (stride-high k W (b .0)) (rows-high k H (b .1)))
+sizes k W H e = let b = picture-sides W H e in sizes′ k W H (b .0) (b .1) (mul-le-mul (stride-high k W (b .0)) (rows-high k H (b .1)))
 
 -- of what `plane_config` gave
 pub sizes-of : (k : PlaneType) (W H : ℕ) (c : PlaneConfig) → c ≡ configOf k W H → badPicture W H ≡ false → Sizes c

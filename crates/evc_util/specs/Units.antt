@@ -15,9 +15,12 @@ wScu b = b .«pic_w» / 4
 abbrev pub hScu : EvcBlock → ℕ
 hScu b = b .«pic_h» / 4
 
--- "unit words, one for each 4 by 4 unit"
+-- "unit words, one for each 4 by 4 unit": of a picture by its sides, and of a block's picture
+abbrev pub unitsOf : ℕ → ℕ → ℕ
+unitsOf W H = W / 4 * (H / 4)
+
 abbrev pub unitCount : EvcBlock → ℕ
-unitCount b = wScu b * hScu b
+unitCount b = unitsOf (b .«pic_w») (b .«pic_h»)
 
 -- the block's first unit, its index in the maps, and the block's sides, in units
 abbrev pub xScu : EvcBlock → ℕ

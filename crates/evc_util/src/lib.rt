@@ -9,7 +9,7 @@ ghost use Rattle.evc_int.specs.LowBits.{low16};
 ghost use Rattle.evc_def.specs.Blocks.{Allowed};
 ghost use Rattle.evc_def.specs.Codes.{firstOf};
 ghost use Rattle.evc_def.specs.Tables.{isCoded, isIntra};
-ghost use Rattle.evc_util.specs.Units.{unitCount, wScu, scup, scuh, Covers, mvLen, mvAt};
+ghost use Rattle.evc_util.specs.Units.{unitsOf, unitCount, wScu, scup, scuh, Covers, mvLen, mvAt};
 ghost use Rattle.evc_util.specs.Candidates.{neighbour, flagOutside, mapsShort, motionChecks, candidates, getMotion};
 ghost use Rattle.evc_util.specs.Direct.{pocTooLarge, directChecks, scaledBy, directVectors, getMvDir};
 ghost use Rattle.evc_util.specs.Flags.{flag, availLeft, availRight, availUp, availInter, availChecks, getAvailInter};
@@ -159,11 +159,11 @@ fn avail_inter(b: EvcBlock, map_scu: &[u32]) -> u16
     left + avail_up(b, map_scu, first) + right
 }
 
-fn unit_count(b: EvcBlock) -> usize
-    requires { ⌜ (b .«pic_w» ≤ 8128) × (b .«pic_h» ≤ 8128) ⌝ }
-    ensures { λ r. ⌜ (r ≡ unitCount b) × (r ≤ 4129024) ⌝ }
+fn unit_count(pic_w: u32, pic_h: u32) -> usize
+    requires { ⌜ («pic_w» ≤ 8128) × («pic_h» ≤ 8128) ⌝ }
+    ensures { λ r. ⌜ (r ≡ unitsOf «pic_w» «pic_h») × (r ≤ 4129024) ⌝ }
 {
-    (scu(b.pic_w) * scu(b.pic_h)) as usize
+    (scu(pic_w) * scu(pic_h)) as usize
 }
 
 fn avail_code(b: EvcBlock, words: usize) -> u32
@@ -173,7 +173,7 @@ fn avail_code(b: EvcBlock, words: usize) -> u32
     if code != 0 {
         return code;
     }
-    if words < unit_count(b) {
+    if words < unit_count(b.pic_w, b.pic_h) {
         return 4;
     }
     0
@@ -236,11 +236,11 @@ fn block_scup(b: EvcBlock) -> usize
 }
 
 // A map of this length is too short for the picture.
-fn map_short(b: EvcBlock, len: usize) -> bool
-    requires { ⌜ (b .«pic_w» ≤ 8128) × (b .«pic_h» ≤ 8128) ⌝ }
-    ensures { λ r. ⌜ r ≡ ltb len (mvLen * unitCount b) ⌝ }
+pub fn map_short(pic_w: u32, pic_h: u32, len: usize) -> bool
+    requires { ⌜ («pic_w» ≤ 8128) × («pic_h» ≤ 8128) ⌝ }
+    ensures { λ r. ⌜ r ≡ ltb len (mvLen * unitsOf «pic_w» «pic_h») ⌝ }
 {
-    len < MAP_MV_LEN * unit_count(b)
+    len < MAP_MV_LEN * unit_count(pic_w, pic_h)
 }
 
 // ---- candidates
@@ -290,7 +290,7 @@ fn maps_short(b: EvcBlock, map_mv: usize, has_col: bool, col_mv: usize) -> bool
     requires { ⌜ (b .«pic_w» ≤ 8128) × (b .«pic_h» ≤ 8128) ⌝ }
     ensures { λ r. ⌜ r ≡ mapsShort b «map_mv» «has_col» «col_mv» ⌝ }
 {
-    map_short(b, map_mv) | (has_col & map_short(b, col_mv))
+    map_short(b.pic_w, b.pic_h, map_mv) | (has_col & map_short(b.pic_w, b.pic_h, col_mv))
 }
 
 fn motion_code(
@@ -458,7 +458,7 @@ fn direct_code(b: EvcBlock, p: Pocs, has_col: bool, col_mv: usize) -> u32
     if code != 0 {
         return code;
     }
-    if has_col & map_short(b, col_mv) {
+    if has_col & map_short(b.pic_w, b.pic_h, col_mv) {
         return 4;
     }
     if poc_too_large(p) {

@@ -237,19 +237,26 @@ fn set_sample(plane: &mut [u16], r: &Record, k: u16) {
     }
 }
 
-// Arbitrary samples below the limit.
-fn fill_plane(t: PlaneType, plane: &mut [u16], r: &Record, seed: u64)
+// Arbitrary samples below the limit; padded, if they are to be and the plane is long enough.
+pub fn fill_plane(
+    t: PlaneType,
+    plane: &mut [u16],
+    pic_w: u32,
+    pic_h: u32,
+    seed: u64,
+    limit: u16,
+    is_padded: bool,
+)
     requires { ⌜ seed < 2147483648 ⌝ }
 {
-    let limit = number(r, LIMIT);
     if limit == 0 {
         return;
     }
     let n = plane.len();
     pad_text::scatter(plane, n, seed);
     pad_text::reduce_row(plane, 0, n, limit);
-    if number(r, IS_PADDED) == 1 {
-        evc_plane::pad(t, number32(r, PIC_W), number32(r, PIC_H), plane);
+    if is_padded {
+        evc_plane::pad(t, pic_w, pic_h, plane);
     }
 }
 
@@ -257,7 +264,15 @@ fn fill_plane(t: PlaneType, plane: &mut [u16], r: &Record, seed: u64)
 fn make_plane(t: PlaneType, plane: &mut [u16], r: &Record, seed: u64, k: u16)
     requires { ⌜ seed < 2147483648 ⌝ }
 {
-    fill_plane(t, plane, r, seed);
+    fill_plane(
+        t,
+        plane,
+        number32(r, PIC_W),
+        number32(r, PIC_H),
+        seed,
+        number(r, LIMIT),
+        number(r, IS_PADDED) == 1,
+    );
     set_sample(plane, r, k);
 }
 

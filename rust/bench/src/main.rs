@@ -11,6 +11,7 @@ mod limit;
 mod measure;
 mod one_plane;
 mod ours;
+mod replay;
 mod report;
 mod room;
 mod vectors;
@@ -54,6 +55,7 @@ fn main() {
     block::run(&mut report);
     border::run(&mut report);
     vectors::run(&mut report);
+    replay::run(&mut report);
     growth::run(&mut report);
     room::run(&mut report);
     report.targets();

@@ -114,3 +114,18 @@ pub fn mc2(b: &Block, lists: &[List; 2], pred0: &mut [u16], pred1: &mut [u16]) -
             pred0.as_mut_ptr(), pred0.len(), pred1.as_mut_ptr(), pred1.len())
     }
 }
+
+/// With a collocated map: the number returned, and the index.
+#[rustfmt::skip]
+pub fn replay(trace: &[u8], planes: [[&[u16]; 3]; 2], col: &[i16], target: [&mut [u16]; 3]) -> (u32, u64) {
+    let [[y0, u0, v0], [y1, u1, v1]] = planes;
+    let [y, u, v] = target;
+    let r = unsafe {
+        evc_trace_replay(trace.as_ptr(), trace.len(),
+            y0.as_ptr(), y0.len(), u0.as_ptr(), u0.len(), v0.as_ptr(), v0.len(),
+            y1.as_ptr(), y1.len(), u1.as_ptr(), u1.len(), v1.as_ptr(), v1.len(),
+            true, col.as_ptr(), col.len(),
+            y.as_mut_ptr(), y.len(), u.as_mut_ptr(), u.len(), v.as_mut_ptr(), v.len())
+    };
+    (r.code, r.index)
+}

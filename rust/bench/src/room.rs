@@ -2,8 +2,8 @@
 
 use crate::block::{lent, Pictures};
 use crate::cases::{blocks, on_plane, plane, PATHS, SIDES};
-use crate::ours;
 use crate::report::Report;
+use crate::{ours, replay};
 use std::alloc::{GlobalAlloc, Layout, System};
 use std::arch::asm;
 use std::sync::atomic::{AtomicUsize, Ordering::Relaxed};
@@ -54,14 +54,14 @@ fn stack_of(mut call: &mut dyn FnMut()) -> usize {
 
 /// The deepest stack and the number of allocations of a call over its sequences.
 #[derive(Default)]
-struct Room {
+pub struct Room {
     stack: usize,
     allocations: usize,
     calls: usize,
 }
 
 impl Room {
-    fn of(&mut self, call: &mut dyn FnMut()) {
+    pub fn of(&mut self, call: &mut dyn FnMut()) {
         self.stack = self.stack.max(stack_of(call));
         let before = ALLOCATIONS.load(Relaxed);
         call();
@@ -125,11 +125,12 @@ fn pad() -> Room {
 
 pub fn run(report: &mut Report) {
     let mut rows = Vec::new();
-    let calls: [(&str, fn() -> Room); 4] = [
+    let calls: [(&str, fn() -> Room); 5] = [
         ("no call, for comparison", nothing),
         ("evc_mc_plane", mc_plane),
         ("evc_mc2", mc2),
         ("evc_pad", pad),
+        ("evc_trace_replay", replay::room),
     ];
     for (name, call) in calls {
         if report.wants(&format!("room {name}")) {

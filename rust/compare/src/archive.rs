@@ -1,5 +1,6 @@
 //! The calls of the archive, as include/evc_inter.h has them.
 
+use oracle::model::trace::{Lent, Record, Replay};
 use oracle::model::{Block, Collocated, List, Mv, OnePlane, Pocs};
 
 #[repr(C)]
@@ -43,6 +44,25 @@ struct EvcDirect {
     code: u32,
     mv0: EvcMv,
     mv1: EvcMv,
+}
+
+#[repr(C)]
+struct EvcTraceRecord {
+    x: u16,
+    y: u16,
+    w: u16,
+    h: u16,
+    kind: u8,
+    mv0: EvcMv,
+    mv1: EvcMv,
+    poc0: u16,
+    poc1: u16,
+}
+
+#[repr(C)]
+struct EvcReplay {
+    code: u32,
+    index: u64,
 }
 
 /// left, up, up_right, collocated
@@ -112,6 +132,46 @@ extern "C" {
         pred1: *mut u16,
         pred1_len: usize,
     ) -> u32;
+    fn evc_trace_write_header(
+        pic_w: u32,
+        pic_h: u32,
+        poc: u16,
+        list_poc0: u16,
+        out: *mut u8,
+        out_len: usize,
+    ) -> u32;
+    fn evc_trace_write_record(
+        pic_w: u32,
+        pic_h: u32,
+        record: EvcTraceRecord,
+        out: *mut u8,
+        out_len: usize,
+    ) -> u32;
+    fn evc_trace_replay(
+        trace: *const u8,
+        trace_len: usize,
+        y0: *const u16,
+        y0_len: usize,
+        u0: *const u16,
+        u0_len: usize,
+        v0: *const u16,
+        v0_len: usize,
+        y1: *const u16,
+        y1_len: usize,
+        u1: *const u16,
+        u1_len: usize,
+        v1: *const u16,
+        v1_len: usize,
+        has_col: bool,
+        col_mv: *const i16,
+        col_mv_len: usize,
+        y: *mut u16,
+        y_len: usize,
+        u: *mut u16,
+        u_len: usize,
+        v: *mut u16,
+        v_len: usize,
+    ) -> EvcReplay;
 }
 
 /// Whoever is compared: the archive, or a faulty one in a test.
@@ -131,6 +191,9 @@ pub trait Calls {
     fn mv_clip(&self, b: &Block, mv: Mv) -> (u32, Mv);
     fn mc_plane(&self, c: &OnePlane, plane: &[u16], pred: &mut [u16]) -> u32;
     fn mc2(&self, b: &Block, lists: &[List; 2], pred0: &mut [u16], pred1: &mut [u16]) -> u32;
+    fn write_header(&self, pic: [u32; 2], poc: u16, list_poc0: u16, out: &mut [u8]) -> u32;
+    fn write_record(&self, pic: [u32; 2], record: &Record, out: &mut [u8]) -> u32;
+    fn replay(&self, lent: Lent, target: [&mut [u16]; 3]) -> Replay;
 }
 
 pub struct Archive;
@@ -284,5 +347,72 @@ impl Calls for Archive {
                 pred1.len(),
             )
         }
+    }
+
+    fn write_header(
+        &self,
+        [pic_w, pic_h]: [u32; 2],
+        poc: u16,
+        list_poc0: u16,
+        out: &mut [u8],
+    ) -> u32 {
+        let (at, len) = (pointer_mut(out), out.len());
+        unsafe { evc_trace_write_header(pic_w, pic_h, poc, list_poc0, at, len) }
+    }
+
+    fn write_record(&self, [pic_w, pic_h]: [u32; 2], r: &Record, out: &mut [u8]) -> u32 {
+        let Record {
+            place: [x, y],
+            side: [w, h],
+            kind,
+            mv,
+            poc: [poc0, poc1],
+        } = *r;
+        let [mv0, mv1] = mv.map(vector);
+        let record = EvcTraceRecord {
+            x,
+            y,
+            w,
+            h,
+            kind,
+            mv0,
+            mv1,
+            poc0,
+            poc1,
+        };
+        unsafe { evc_trace_write_record(pic_w, pic_h, record, pointer_mut(out), out.len()) }
+    }
+
+    fn replay(&self, lent: Lent, target: [&mut [u16]; 3]) -> Replay {
+        let [[y0, u0, v0], [y1, u1, v1]] = lent.planes;
+        let [y, u, v] = target;
+        let EvcReplay { code, index } = unsafe {
+            evc_trace_replay(
+                pointer(lent.trace),
+                lent.trace.len(),
+                pointer(y0),
+                y0.len(),
+                pointer(u0),
+                u0.len(),
+                pointer(v0),
+                v0.len(),
+                pointer(y1),
+                y1.len(),
+                pointer(u1),
+                u1.len(),
+                pointer(v1),
+                v1.len(),
+                lent.col.is_present,
+                pointer(lent.col.map),
+                lent.col.map.len(),
+                pointer_mut(y),
+                y.len(),
+                pointer_mut(u),
+                u.len(),
+                pointer_mut(v),
+                v.len(),
+            )
+        };
+        Replay { code, index }
     }
 }

@@ -7,10 +7,13 @@ use crate::cases::demand3::Demand3;
 use crate::cases::invisible::{Invisible, UpTo};
 use crate::cases::one_plane::Planes;
 use crate::cases::padding::Padding;
+use crate::cases::replay::Replays;
+use crate::cases::trace::{Headers, Records};
 use crate::cases::units::{Directs, Flags, Motions};
 use crate::cases::Case;
 use crate::run::Run;
 use crate::sys::{End, ALARM};
+use oracle::model::trace::{self, Header, Record, Replay, HEADER_LEN, RECORD_LEN};
 use oracle::model::{self, Block, Collocated, List, Mv, OnePlane, Pocs, PRED_LEN};
 
 #[derive(Clone, Copy, PartialEq)]
@@ -52,6 +55,36 @@ enum Fault {
     LeansLeft,
     /// Never ends.
     Loops,
+    /// The counts of a header high byte first.
+    HighByteFirst,
+    /// A record's 12 before its 4.
+    Checks12First,
+    /// Writes a record, and then refuses it.
+    WritesRefused,
+    /// The byte behind a record becomes 0.
+    WritesPastRecord,
+    /// A refusal has index 0.
+    ForgetsIndex,
+    /// A finished replay has the index of its last record.
+    LastIndex,
+    /// An incomplete last record counts as excess.
+    CutsIncomplete,
+    /// The last byte of a record is not looked at.
+    SkipsLastByte,
+    /// A record of kind 3 is predicted with its own vectors.
+    NotDirect,
+    /// The header's two counts change places.
+    SwapsCounts,
+    /// The target is as it was after a refusal.
+    Undoes,
+    /// The last block of a trace lies one row lower.
+    OneRowLower,
+    /// The target is padded.
+    PadsTarget,
+    /// Without a record no plane is needed.
+    NeedsNoPlane,
+    /// Puts back a byte of the trace.
+    WritesTrace,
 }
 
 use Fault::*;
@@ -177,6 +210,85 @@ impl Calls for Faulty {
         }
         code
     }
+
+    fn write_header(&self, pic: [u32; 2], poc: u16, list_poc0: u16, out: &mut [u8]) -> u32 {
+        let code = Archive.write_header(pic, poc, list_poc0, out);
+        if code == 0 && self.0 == HighByteFirst {
+            out.swap(9, 10);
+            out.swap(11, 12);
+        }
+        code
+    }
+
+    fn write_record(&self, pic: [u32; 2], record: &Record, out: &mut [u8]) -> u32 {
+        let code = Archive.write_record(pic, record, out);
+        match (self.0, code) {
+            (Checks12First, 4) if record.is_refused() => return 12,
+            (WritesRefused, 12) => out[..RECORD_LEN].copy_from_slice(&record.bytes()),
+            (WritesPastRecord, 0) if out.len() > RECORD_LEN => out[RECORD_LEN] = 0,
+            _ => (),
+        }
+        code
+    }
+
+    fn replay(&self, lent: trace::Lent, target: [&mut [u16]; 3]) -> Replay {
+        let [y, u, v] = target;
+        let old = [y.to_vec(), u.to_vec(), v.to_vec()];
+        let mut bytes = lent.trace.to_vec();
+        if bytes.len() >= HEADER_LEN {
+            if self.0 == SwapsCounts {
+                bytes[9..HEADER_LEN].rotate_left(2);
+            }
+            let whole = (bytes.len() - HEADER_LEN) / RECORD_LEN * RECORD_LEN;
+            let records = bytes[HEADER_LEN..].chunks_exact_mut(RECORD_LEN);
+            match self.0 {
+                SkipsLastByte => records.for_each(|record| record[RECORD_LEN - 1] = 0),
+                NotDirect => records
+                    .filter(|record| record[8] == 3)
+                    .for_each(|record| record[8] = 2),
+                CutsIncomplete => bytes.truncate(HEADER_LEN + whole),
+                _ => (),
+            }
+        }
+        let given = trace::Lent {
+            trace: &bytes,
+            ..lent
+        };
+        let mut answer = Archive.replay(given, [&mut *y, &mut *u, &mut *v]);
+        let Replay { code, index } = answer;
+        match self.0 {
+            ForgetsIndex if code != 0 => answer.index = 0,
+            LastIndex if code == 0 => answer.index = index.saturating_sub(1),
+            Undoes if code != 0 => {
+                y.copy_from_slice(&old[0]);
+                u.copy_from_slice(&old[1]);
+                v.copy_from_slice(&old[2]);
+            }
+            OneRowLower if code == 0 && index > 0 => {
+                let pic = Header::read(&bytes).pic;
+                let last = Record::read(&bytes[bytes.len() - RECORD_LEN..]).block(pic);
+                let c = OnePlane::over(false, last.pic);
+                let [x, top, right, below] = last.edges();
+                let row = |j| c.index(x, j) as usize..c.index(right, j) as usize;
+                for j in (top..below).rev() {
+                    y.copy_within(row(j), row(j + 1).start);
+                }
+                y[row(top)].copy_from_slice(&old[0][row(top)]);
+            }
+            PadsTarget if code == 0 => {
+                let pic = Header::read(&bytes).pic.map(u32::from);
+                Archive.pad(false, pic, y);
+            }
+            NeedsNoPlane if code == 4 && bytes.len() == HEADER_LEN => answer.code = 0,
+            // SAFETY: none, that is the fault.
+            WritesTrace if !lent.trace.is_empty() => unsafe {
+                let first = lent.trace.as_ptr() as *mut u8;
+                std::ptr::write_volatile(first, *first);
+            },
+            _ => (),
+        }
+        answer
+    }
 }
 
 const BATCHES: u64 = 40;
@@ -223,6 +335,9 @@ fn no_fault() {
     assert_none::<Blocks>();
     assert_none::<Demand3>();
     assert_none::<Invisible>();
+    assert_none::<Headers>();
+    assert_none::<Records>();
+    assert_none::<Replays>();
 }
 
 /// The lines of a run that fails: `cargo test -p compare told -- --nocapture`.
@@ -308,6 +423,44 @@ fn of_w6() {
     // the law claimed of a side of 64 too: the case is a mirror image of W6's counterexample
     let small = ["place: [0, 0], side: [4, 64]", "[0, -257]"];
     assert_noticed::<UpTo<64>>(NoFault, DIFFERS, &small);
+}
+
+#[test]
+fn of_the_writers() {
+    let small = ["pic: [4, 4], poc: 1, list_poc0: 0, len: 13"];
+    assert_noticed::<Headers>(HighByteFirst, DIFFERS, &small);
+    let small = ["pic: [4, 4]", "mv: [[0, 0], [0, 0]]", "len: 0"];
+    assert_noticed::<Records>(Checks12First, DIFFERS, &small);
+    assert_noticed::<Records>(WritesRefused, DIFFERS, &["pic: [4, 4]", "len: 22"]);
+    let small = ["kind: 0, mv: [[0, 0], [0, 0]], poc: [0, 0]", "len: 23"];
+    assert_noticed::<Records>(WritesPastRecord, DIFFERS, &small);
+}
+
+#[test]
+fn of_replay() {
+    let none = "pic: [4, 4], poc: 0, list_poc0: 0 }, records: []";
+    let one = "pic: [4, 4], poc: 0, list_poc0: 0 }, records: [Record { place: [0, 0], side: [4, 4], kind: 0, mv: [[0, 0], [0, 0]], poc: [0, 0] }]";
+    let whole = "damage: []";
+    assert_noticed::<Replays>(ForgetsIndex, DIFFERS, &[one]);
+    assert_noticed::<Replays>(LastIndex, DIFFERS, &[one, whole]);
+    assert_noticed::<Replays>(CutsIncomplete, DIFFERS, &[none]);
+    assert_noticed::<Replays>(
+        SkipsLastByte,
+        DIFFERS,
+        &["pic: [4, 4], poc: 0, list_poc0: 0 }"],
+    );
+    assert_noticed::<Replays>(NotDirect, DIFFERS, &["kind: 3", whole]);
+    assert_noticed::<Replays>(SwapsCounts, DIFFERS, &["kind: 3"]);
+    assert_noticed::<Replays>(Undoes, DIFFERS, &[one]);
+    assert_noticed::<Replays>(OneRowLower, DIFFERS, &[one, whole]);
+    // padding is accepted where the blocks cover the picture
+    assert_noticed::<Replays>(
+        PadsTarget,
+        DIFFERS,
+        &["list_poc0: 0 }, records: [Record { place: [0, 0]", whole],
+    );
+    assert_noticed::<Replays>(NeedsNoPlane, DIFFERS, &[none]);
+    assert_noticed::<Replays>(WritesTrace, CRASHES, &["records: []"]);
 }
 
 #[test]

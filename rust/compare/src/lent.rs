@@ -261,3 +261,9 @@ pub fn old_samples(len: usize, seed: u64) -> Vec<u16> {
     let old = |k: usize| (k.wrapping_mul(40503) ^ seed as usize) as u16;
     (0..len).map(old).collect()
 }
+
+/// The same in bytes.
+pub fn old_bytes(len: usize, seed: u64) -> Vec<u8> {
+    let old = old_samples(len, seed).into_iter();
+    old.map(|sample| (sample >> 4) as u8).collect()
+}

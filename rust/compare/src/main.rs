@@ -17,6 +17,8 @@ use cases::demand3::Demand3;
 use cases::invisible::Invisible;
 use cases::one_plane::Planes;
 use cases::padding::Padding;
+use cases::replay::Replays;
+use cases::trace::{Headers, Records};
 use cases::units::{Directs, Flags, Motions};
 use cases::Case;
 use run::{Counts, Run};
@@ -54,11 +56,11 @@ fn options() -> Option<Options> {
     Some(options)
 }
 
-/// "0: 12 (domain 7, beyond 5), 1: 3"
+/// "0: 12 (domain 7, beyond 5), 1: 3"; where the Rust was never asked "0: 12, 1: 3"
 fn told(counts: &Counts) -> String {
     let numbers = counts.iter().enumerate().filter(|(_, n)| **n != [0, 0]);
-    let told = numbers.map(|(code, [beyond, domain])| match code {
-        0 => format!("0: {} (domain {domain}, beyond {beyond})", domain + beyond),
+    let told = numbers.map(|(code, [beyond, domain])| match (code, domain) {
+        (0, 1..) => format!("0: {} (domain {domain}, beyond {beyond})", domain + beyond),
         _ => format!("{code}: {}", domain + beyond),
     });
     told.collect::<Vec<_>>().join(", ")
@@ -122,7 +124,7 @@ fn told_end(end: End) -> &'static str {
 type Comparison = fn(&dyn Calls, &Options, f64) -> bool;
 
 /// Each call with its share of the time.
-const CALLS: [(&str, Comparison, f64); 9] = [
+const CALLS: [(&str, Comparison, f64); 12] = [
     (Padding::NAME, compare::<Padding>, 0.12),
     (Flags::NAME, compare::<Flags>, 0.08),
     (Motions::NAME, compare::<Motions>, 0.08),
@@ -132,6 +134,9 @@ const CALLS: [(&str, Comparison, f64); 9] = [
     (Blocks::NAME, compare::<Blocks>, 0.22),
     (Demand3::NAME, compare::<Demand3>, 0.2),
     (Invisible::NAME, compare::<Invisible>, 0.15),
+    (Headers::NAME, compare::<Headers>, 0.02),
+    (Records::NAME, compare::<Records>, 0.03),
+    (Replays::NAME, compare::<Replays>, 0.25),
 ];
 
 fn main() {

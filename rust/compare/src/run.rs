@@ -8,10 +8,13 @@ use crate::sys::{self, End, PAGE, PROT_READ, PROT_WRITE};
 use oracle::cases::Rng;
 use std::sync::atomic::{AtomicU64, Ordering::Relaxed};
 
+/// Numbers that a call can return: 0 to 12 by now.
+const CODES: usize = 16;
+
 /// What both processes see: the case at hand, and how many were seen by number and domain.
 struct Progress {
     case: AtomicU64,
-    counts: [[AtomicU64; 2]; 8],
+    counts: [[AtomicU64; 2]; CODES],
 }
 
 fn progress() -> &'static Progress {
@@ -21,7 +24,7 @@ fn progress() -> &'static Progress {
 }
 
 /// How many cases by the number returned: beyond the domain, and in it, where the Rust was asked too.
-pub type Counts = [[u64; 2]; 8];
+pub type Counts = [[u64; 2]; CODES];
 
 pub struct Failure<C> {
     pub number: u64,
@@ -79,7 +82,7 @@ impl Run<'_> {
                     progress.case.store(at, Relaxed);
                     match case.run(self.calls, &mut lent) {
                         Ok(seen) => {
-                            let counts = &progress.counts[seen.code as usize & 7];
+                            let counts = &progress.counts[seen.code as usize % CODES];
                             counts[usize::from(seen.in_domain)].fetch_add(1, Relaxed);
                         }
                         Err(_) => return 1,

@@ -4,7 +4,7 @@
 //! crates/evc_inter say that a call reads and writes nothing but what is lent, and keeps none of it.
 
 use crate::ffi;
-use crate::{EvcBlock, EvcCandidates, EvcList, EvcMv, Refusal};
+use crate::{EvcBlock, EvcCandidates, EvcList, EvcMv, EvcTraceRecord, Refusal, Replay};
 
 /// The border step: fills the border of one plane in place. Refuses 1, 4, 6.
 ///
@@ -257,6 +257,130 @@ pub fn evc_mc2(
             pred1.len(),
         )
     })
+}
+
+/// The header of a trace, into the first 13 bytes lent. Refuses 1, 4.
+///
+/// `poc` is the order count of the picture, `list_poc0` the first count that reference 1 lists.
+/// [`TraceWriter`](crate::TraceWriter) writes whole traces.
+///
+/// ```
+/// use evc_inter::{evc_trace_write_header, Refusal, TRACE_HEADER_LEN};
+///
+/// let mut out = [0; TRACE_HEADER_LEN];
+/// evc_trace_write_header(416, 240, 4, 0, &mut out)?;
+/// assert_eq!(out, *b"IPT\x01\0\xa0\x01\xf0\0\x04\0\0\0");
+/// let short = evc_trace_write_header(416, 240, 4, 0, &mut out[1..]);
+/// assert_eq!(short, Err(Refusal::Buffer));
+/// # Ok::<(), Refusal>(())
+/// ```
+pub fn evc_trace_write_header(
+    pic_w: u32,
+    pic_h: u32,
+    poc: u16,
+    list_poc0: u16,
+    out: &mut [u8],
+) -> Result<(), Refusal> {
+    Refusal::check(unsafe {
+        ffi::evc_trace_write_header(pic_w, pic_h, poc, list_poc0, out.as_mut_ptr(), out.len())
+    })
+}
+
+/// A record of a trace, into the first 22 bytes lent. Refuses 1, 4, 12.
+///
+/// Neither the block nor a count is tested: what a decoder asked for can be kept also where it is
+/// refused.
+///
+/// ```
+/// use evc_inter::{evc_trace_write_record, EvcMv, EvcTraceRecord, Refusal, TRACE_RECORD_LEN};
+///
+/// let mut out = [0; TRACE_RECORD_LEN];
+/// let mv1 = EvcMv { x: -2, y: 300 };
+/// let record = EvcTraceRecord { x: 16, w: 8, h: 4, kind: 1, mv1, poc1: 8, ..Default::default() };
+/// evc_trace_write_record(416, 240, record, &mut out)?;
+/// assert_eq!(out, *b"\x10\0\0\0\x08\0\x04\0\x01\0\0\0\0\xfe\xff\x2c\x01\0\0\x08\0\0");
+/// let direct = EvcTraceRecord { kind: 3, ..record }; // which has no vectors
+/// assert_eq!(evc_trace_write_record(416, 240, direct, &mut out), Err(Refusal::Record));
+/// # Ok::<(), Refusal>(())
+/// ```
+pub fn evc_trace_write_record(
+    pic_w: u32,
+    pic_h: u32,
+    record: EvcTraceRecord,
+    out: &mut [u8],
+) -> Result<(), Refusal> {
+    Refusal::check(unsafe {
+        ffi::evc_trace_write_record(pic_w, pic_h, record, out.as_mut_ptr(), out.len())
+    })
+}
+
+/// A trace's records one after another, their blocks into the target's picture. Refuses 11, 10, 1, 4,
+/// and for each record 11, 12, 2, 5, 6.
+///
+/// `planes0` and `planes1` are Y, U, V of the references, padded, of the header's size, and needed
+/// whole, also if no record uses one; so is the target, whose borders stay. `col_mv` is the motion
+/// map of reference 1, or `None` if it has none. [`replay`](crate::replay) does the same over
+/// pictures.
+///
+/// ```
+/// use evc_inter::{evc_trace_replay, EvcBlock, Picture, Refusal, TraceRecord, TraceWriter};
+///
+/// let [mut reference, mut target] = [Picture::new(16, 8)?, Picture::new(16, 8)?];
+/// for plane in reference.samples_mut() {
+///     plane.fill(300); // with its border
+/// }
+/// let planes = reference.samples();
+/// let mut trace = TraceWriter::new(Vec::new(), 16, 8, 4, 0)?;
+/// let block = EvcBlock { pic_w: 16, pic_h: 8, x: 8, y: 0, w: 8, h: 8 };
+/// trace.record(TraceRecord::direct(block, 0, 8)?)?;
+/// let trace = trace.into_inner();
+///
+/// let replay = evc_trace_replay(&trace, planes, planes, None, target.samples_mut());
+/// assert_eq!((replay.finished, replay.refusal), (1, None));
+/// assert_eq!(target.planes[0].row(0)[6..10], [0, 0, 300, 300]);
+///
+/// let cut = &trace[..20]; // inside the record
+/// let replay = evc_trace_replay(cut, planes, planes, None, target.samples_mut());
+/// assert_eq!((replay.finished, replay.refusal), (0, Some(Refusal::Incomplete)));
+/// # Ok::<(), std::io::Error>(())
+/// ```
+pub fn evc_trace_replay(
+    trace: &[u8],
+    planes0: [&[u16]; 3],
+    planes1: [&[u16]; 3],
+    col_mv: Option<&[i16]>,
+    target: [&mut [u16]; 3],
+) -> Replay {
+    let ([y0, u0, v0], [y1, u1, v1], [y, u, v]) = (planes0, planes1, target);
+    let col = col_mv.unwrap_or(&[]);
+    let returned = unsafe {
+        ffi::evc_trace_replay(
+            trace.as_ptr(),
+            trace.len(),
+            y0.as_ptr(),
+            y0.len(),
+            u0.as_ptr(),
+            u0.len(),
+            v0.as_ptr(),
+            v0.len(),
+            y1.as_ptr(),
+            y1.len(),
+            u1.as_ptr(),
+            u1.len(),
+            v1.as_ptr(),
+            v1.len(),
+            col_mv.is_some(),
+            col.as_ptr(),
+            col.len(),
+            y.as_mut_ptr(),
+            y.len(),
+            u.as_mut_ptr(),
+            u.len(),
+            v.as_mut_ptr(),
+            v.len(),
+        )
+    };
+    Replay::new(returned, trace.len())
 }
 
 /// docs/INTEGRATION.md: -32767 may stand in for -32768, in pictures and places of any size.

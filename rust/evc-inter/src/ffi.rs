@@ -1,6 +1,6 @@
 //! include/evc_inter.h, declaration for declaration.
 
-use crate::{EvcBlock, EvcCandidates, EvcList, EvcMv};
+use crate::{EvcBlock, EvcCandidates, EvcList, EvcMv, EvcTraceRecord};
 
 #[repr(C)]
 pub struct EvcAvail {
@@ -19,6 +19,12 @@ pub struct EvcDirect {
     pub code: u32,
     pub mv0: EvcMv,
     pub mv1: EvcMv,
+}
+
+#[repr(C)]
+pub struct EvcReplay {
+    pub code: u32,
+    pub index: u64,
 }
 
 extern "C" {
@@ -90,4 +96,47 @@ extern "C" {
         pred1: *mut u16,
         pred1_len: usize,
     ) -> u32;
+
+    pub fn evc_trace_write_header(
+        pic_w: u32,
+        pic_h: u32,
+        poc: u16,
+        list_poc0: u16,
+        out: *mut u8,
+        out_len: usize,
+    ) -> u32;
+
+    pub fn evc_trace_write_record(
+        pic_w: u32,
+        pic_h: u32,
+        record: EvcTraceRecord,
+        out: *mut u8,
+        out_len: usize,
+    ) -> u32;
+
+    pub fn evc_trace_replay(
+        trace: *const u8,
+        trace_len: usize,
+        y0: *const u16,
+        y0_len: usize,
+        u0: *const u16,
+        u0_len: usize,
+        v0: *const u16,
+        v0_len: usize,
+        y1: *const u16,
+        y1_len: usize,
+        u1: *const u16,
+        u1_len: usize,
+        v1: *const u16,
+        v1_len: usize,
+        has_col: bool,
+        col_mv: *const i16,
+        col_mv_len: usize,
+        y: *mut u16,
+        y_len: usize,
+        u: *mut u16,
+        u_len: usize,
+        v: *mut u16,
+        v_len: usize,
+    ) -> EvcReplay;
 }

@@ -2,8 +2,9 @@
 //!
 //! Each call of `include/evc_inter.h` is here under its name, over slices. A call gives a finished
 //! result or one [`Refusal`], for any numbers and any buffers; after a refusal all that was lent is
-//! as it was. Sizes and places are in luma samples, vectors in quarter luma samples, samples are 10
-//! bits. [`Plane`] and [`Picture`] make the buffers that the calls take.
+//! as it was, but for the target of a replay. Sizes and places are in luma samples, vectors in
+//! quarter luma samples, samples are 10 bits. [`Plane`] and [`Picture`] make the buffers that the
+//! calls take. [`TraceWriter`] keeps a trace of what was predicted, and [`replay`] predicts it again.
 //!
 //! ```
 //! use evc_inter::{cu_plane, evc_mc2, EvcBlock, EvcList, EvcMv, Picture, Refusal, CU_LEN};
@@ -34,12 +35,14 @@ mod cu;
 pub mod ffi;
 mod plane;
 mod refusal;
+mod trace;
 mod types;
 
 pub use calls::*;
 pub use cu::*;
 pub use plane::*;
 pub use refusal::*;
+pub use trace::*;
 pub use types::*;
 
 /// The examples of docs/INTEGRATION.md are tests too.

@@ -167,6 +167,11 @@ impl Plane {
     pub fn samples(&self) -> &[u16] {
         &self.data
     }
+
+    /// The whole buffer with its border, to be lent to a call that writes to it.
+    pub fn samples_mut(&mut self) -> &mut [u16] {
+        &mut self.data
+    }
 }
 
 /// The three planes of a picture: Y, U, V.
@@ -209,6 +214,11 @@ impl Picture {
     /// The three planes, to be lent to [`evc_mc2`](crate::evc_mc2).
     pub fn samples(&self) -> [&[u16]; 3] {
         self.planes.each_ref().map(Plane::samples)
+    }
+
+    /// The three planes, to be lent to [`evc_trace_replay`](crate::evc_trace_replay) as its target.
+    pub fn samples_mut(&mut self) -> [&mut [u16]; 3] {
+        self.planes.each_mut().map(Plane::samples_mut)
     }
 }
 

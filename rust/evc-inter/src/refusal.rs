@@ -2,7 +2,9 @@
 
 use std::fmt;
 
-/// The numbers of document 01's table. A call that returns one has written nothing.
+/// The numbers of document 01's table and, from 10 on, of document 02. A call that returns one has
+/// written nothing; only a replay keeps the blocks before the record that it refuses, as
+/// [`Replay`](crate::Replay) says.
 ///
 /// The message is for whoever looks after the item: what was found, and where to look.
 ///
@@ -32,11 +34,17 @@ pub enum Refusal {
     Sample = 6,
     /// A flag names a neighbour outside the picture.
     Neighbour = 7,
+    /// What is replayed is no trace, or one of another version.
+    Mark = 10,
+    /// A trace ends inside its header or inside a record.
+    Incomplete = 11,
+    /// A record has a kind above 3, or a nonzero field that is due to be zero.
+    Record = 12,
 }
 
 impl Refusal {
     /// Every refusal, in rising number.
-    pub const ALL: [Refusal; 7] = [
+    pub const ALL: [Refusal; 10] = [
         Refusal::Picture,
         Refusal::Block,
         Refusal::List,
@@ -44,9 +52,12 @@ impl Refusal {
         Refusal::OrderCount,
         Refusal::Sample,
         Refusal::Neighbour,
+        Refusal::Mark,
+        Refusal::Incomplete,
+        Refusal::Record,
     ];
 
-    /// The number of document 01's table, as the C call returns it.
+    /// The number of the documents, as the C call returns it.
     ///
     /// ```
     /// assert_eq!(evc_inter::Refusal::Sample.number(), 6);
@@ -57,10 +68,13 @@ impl Refusal {
 
     /// What a C call returned; 0 is done.
     pub(crate) fn check(code: u32) -> Result<(), Refusal> {
-        match code {
-            0 => Ok(()),
-            1..=7 => Err(Refusal::ALL[code as usize - 1]),
-            _ => unreachable!("the contracts allow 0 to 7, not {code}"),
+        if code == 0 {
+            return Ok(());
+        }
+        let mut all = Refusal::ALL.into_iter();
+        match all.find(|refusal| refusal.number() == code) {
+            Some(refusal) => Err(refusal),
+            None => unreachable!("the contracts allow no {code}"),
         }
     }
 }
@@ -96,6 +110,18 @@ impl fmt::Display for Refusal {
                 "a flag names a neighbour outside the picture; \
                  the flags belong to another block or the stream is damaged"
             }
+            Refusal::Mark => {
+                "a trace does not begin with the letters IPT and version 1; \
+                 look whether it is another file, or comes from a newer decoder"
+            }
+            Refusal::Incomplete => {
+                "a trace ends inside its header or inside a record; \
+                 look whether it was cut off while it was written or copied"
+            }
+            Refusal::Record => {
+                "a record of a trace has a kind above 3, or a number where that kind asks for zero; \
+                 the trace is damaged"
+            }
         };
         write!(f, "refused ({}): {what}", self.number())
     }
@@ -106,9 +132,10 @@ impl std::error::Error for Refusal {}
 #[test]
 fn numbers() {
     assert_eq!(Refusal::check(0), Ok(()));
-    for (refusal, number) in Refusal::ALL.into_iter().zip(1..) {
+    let numbers = [1, 2, 3, 4, 5, 6, 7, 10, 11, 12];
+    assert_eq!(Refusal::ALL.map(Refusal::number), numbers);
+    for (refusal, number) in Refusal::ALL.into_iter().zip(numbers) {
         assert_eq!(Refusal::check(number), Err(refusal));
-        assert_eq!(refusal.number(), number);
         assert!(refusal
             .to_string()
             .starts_with(&format!("refused ({number}): ")));

@@ -56,11 +56,39 @@ pub struct EvcCandidates {
     pub refi: [i8; 4],
 }
 
+/// The fields of a trace's record; the trace has them in this order, 16 bits each but for the kind, and a
+/// zero byte behind them.
+///
+/// [`TraceRecord`](crate::TraceRecord) makes those that are accepted: "Fields of an unused list are
+/// zero, and so are both vectors of kind 3."
+#[derive(Clone, Copy, Debug, Default, PartialEq, Eq, Hash)]
+#[repr(C)]
+pub struct EvcTraceRecord {
+    /// Left edge of the block.
+    pub x: u16,
+    /// Upper edge of the block.
+    pub y: u16,
+    /// Width of the block.
+    pub w: u16,
+    /// Height of the block.
+    pub h: u16,
+    /// 0 list 0, 1 list 1, 2 both, 3 direct with both lists.
+    pub kind: u8,
+    /// The vector of list 0, as decoded.
+    pub mv0: EvcMv,
+    /// The vector of list 1, likewise.
+    pub mv1: EvcMv,
+    /// Order count of list 0's reference.
+    pub poc0: u16,
+    /// Order count of list 1's reference.
+    pub poc1: u16,
+}
+
 /// The header's layout on x86-64; tests/c holds the header to the same numbers.
 #[cfg(test)]
 mod layout {
     use super::*;
-    use crate::ffi::{EvcAvail, EvcClipped, EvcDirect};
+    use crate::ffi::{EvcAvail, EvcClipped, EvcDirect, EvcReplay};
     use std::mem::{align_of, offset_of, size_of};
 
     macro_rules! layout {
@@ -80,4 +108,9 @@ mod layout {
     layout!(clipped, EvcClipped, 8, 4, code 0, mv 4);
     layout!(direct, EvcDirect, 12, 4, code 0, mv0 4, mv1 8);
     layout!(candidates, EvcCandidates, 20, 2, left 0, up 4, up_right 8, collocated 12, refi 16);
+    layout!(
+        trace_record, EvcTraceRecord, 22, 2,
+        x 0, y 2, w 4, h 6, kind 8, mv0 10, mv1 14, poc0 18, poc1 20
+    );
+    layout!(replay, EvcReplay, 16, 8, code 0, index 8);
 }

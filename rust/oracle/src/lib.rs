@@ -48,6 +48,7 @@ pub mod cases;
 pub mod mc2_lists;
 pub mod mc_lists;
 pub mod model;
+pub mod replay_lists;
 pub mod util_lists;
 pub use mc::calls::{evc_mc_plane, mv_clip, Picture, References};
 pub use plane::calls::{pad, pad_plane, plane_config, plane_of};

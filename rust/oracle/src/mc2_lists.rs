@@ -11,7 +11,7 @@ use crate::{pad, plane_config, plane_of, Picture};
 use std::fmt::Write;
 
 /// Samples that a plane of this picture needs.
-fn needed(pic: [u32; 2], chroma: bool) -> usize {
+pub(crate) fn needed(pic: [u32; 2], chroma: bool) -> usize {
     let c = OnePlane {
         chroma,
         pic,
@@ -24,10 +24,10 @@ fn needed(pic: [u32; 2], chroma: bool) -> usize {
 
 /// A sample that is set apart: its plane, 0 to 5, its place there and what it becomes.
 #[derive(Clone, Copy)]
-struct Set {
-    plane: usize,
-    place: usize,
-    value: u16,
+pub(crate) struct Set {
+    pub(crate) plane: usize,
+    pub(crate) place: usize,
+    pub(crate) value: u16,
 }
 
 /// The six planes that are lent to calls: Y, U, V of list 0, then of list 1.
@@ -168,17 +168,17 @@ impl List {
     }
 }
 
-fn small(n: usize) -> u16 {
+pub(crate) fn small(n: usize) -> u16 {
     assert!(n < 65536, "{n} has no two bytes");
     n as u16
 }
 
 /// Every pair of ways that a vector leads.
-fn towards() -> impl Iterator<Item = [Toward; 2]> {
+pub(crate) fn towards() -> impl Iterator<Item = [Toward; 2]> {
     TOWARDS.iter().flat_map(|x| TOWARDS.map(|y| [*x, y]))
 }
 
-fn random_vector(b: &Block, rng: &mut Rng) -> Mv {
+pub(crate) fn random_vector(b: &Block, rng: &mut Rng) -> Mv {
     let towards = [(); 2].map(|_| TOWARDS[rng.below(7)]);
     vector(b, towards, rng)
 }

@@ -1,12 +1,21 @@
 //! The blocks of a picture and their vectors: made up, and the same in every run.
 
-use evc_inter::{EvcBlock, EvcMv};
+use crate::{CURRENT, LIST_POC0, POC};
+use evc_inter::{evc_get_mv_dir, EvcBlock, EvcMv, Refusal};
 
-/// A block with its vector for each list.
+/// A block with its vector for each list, and with the direct vectors.
 #[derive(Clone, Copy)]
 pub struct Moved {
     pub block: EvcBlock,
     pub mv: [EvcMv; 2],
+    pub direct: [EvcMv; 2],
+}
+
+impl Moved {
+    pub fn vectors(&self) -> [EvcMv; 4] {
+        let ([mv0, mv1], [direct0, direct1]) = (self.mv, self.direct);
+        [mv0, mv1, direct0, direct1]
+    }
 }
 
 /// Numbers that look random, from a linear congruential sequence.
@@ -42,8 +51,36 @@ impl Lcg {
     }
 }
 
-/// Blocks of all sizes that cover the picture, each sample once; most vectors are near `base`.
-pub fn blocks(pic_w: u32, pic_h: u32, base: impl Fn(&EvcBlock) -> [EvcMv; 2]) -> Vec<Moved> {
+/// The motion map of the second reference, four numbers a unit; most vectors are near `base`. Those of
+/// list 1 stay zero, as nothing reads them.
+pub fn collocated(pic_w: u32, pic_h: u32, base: impl Fn(&EvcBlock) -> EvcMv) -> Vec<i16> {
+    let mut lcg = Lcg(3);
+    let mut map = Vec::new();
+    for y in (0..pic_h).step_by(4) {
+        for x in (0..pic_w).step_by(4) {
+            let unit = EvcBlock {
+                pic_w,
+                pic_h,
+                x,
+                y,
+                w: 4,
+                h: 4,
+            };
+            let mv = lcg.mv(base(&unit));
+            map.extend([mv.x, mv.y, 0, 0]);
+        }
+    }
+    map
+}
+
+/// Blocks of all sizes that cover the picture, each sample once; most vectors are near `base`, and
+/// the direct ones come from the collocated map.
+pub fn blocks(
+    pic_w: u32,
+    pic_h: u32,
+    base: impl Fn(&EvcBlock) -> [EvcMv; 2],
+    col_mv: &[i16],
+) -> Result<Vec<Moved>, Refusal> {
     let mut made = Vec::new();
     let mut lcg = Lcg(2); // has every size at 416 by 240
     for y in (0..pic_h).step_by(64) {
@@ -58,11 +95,15 @@ pub fn blocks(pic_w: u32, pic_h: u32, base: impl Fn(&EvcBlock) -> [EvcMv; 2]) ->
             };
             split(whole, &mut lcg, &mut |block, lcg| {
                 let mv = base(&block).map(|base| lcg.mv(base));
-                made.push(Moved { block, mv })
+                made.push((block, mv))
             });
         }
     }
-    made
+    let with_direct = |(block, mv)| {
+        let direct = evc_get_mv_dir(block, CURRENT, POC[0], POC[1], LIST_POC0, Some(col_mv))?;
+        Ok(Moved { block, mv, direct })
+    };
+    made.into_iter().map(with_direct).collect()
 }
 
 /// Halves the block until it lies inside the picture and chance has had enough.
@@ -98,21 +139,44 @@ fn split(b: EvcBlock, lcg: &mut Lcg, make: &mut impl FnMut(EvcBlock, &mut Lcg)) 
     split(second, lcg, make);
 }
 
-#[test]
-fn every_sample_once() {
-    for (w, h) in [(4, 4), (68, 132), (200, 100), (64, 8)] {
-        let mut times = vec![0; (w * h) as usize];
-        for Moved { block: b, .. } in blocks(w, h, |_| [EvcMv::default(); 2]) {
-            assert_eq!(
-                evc_inter::evc_mv_clip(b, EvcMv::default()),
-                Ok(EvcMv::default())
-            );
-            for y in b.y..b.y + b.h {
-                for x in b.x..b.x + b.w {
-                    times[(y * w + x) as usize] += 1;
+#[cfg(test)]
+mod tests {
+    use super::*;
+
+    #[test]
+    fn every_sample_once() {
+        for (w, h) in [(4, 4), (68, 132), (200, 100), (64, 8)] {
+            let mut times = vec![0; (w * h) as usize];
+            let col_mv = collocated(w, h, |_| EvcMv::default());
+            for moved in blocks(w, h, |_| [EvcMv::default(); 2], &col_mv).unwrap() {
+                let b = moved.block;
+                assert_eq!(
+                    evc_inter::evc_mv_clip(b, EvcMv::default()),
+                    Ok(EvcMv::default())
+                );
+                for y in b.y..b.y + b.h {
+                    for x in b.x..b.x + b.w {
+                        times[(y * w + x) as usize] += 1;
+                    }
                 }
             }
+            assert!(times.iter().all(|n| *n == 1), "{w} by {h}");
         }
-        assert!(times.iter().all(|n| *n == 1), "{w} by {h}");
+    }
+
+    /// Halfway between the references: half the vector of the block's first unit, and its opposite.
+    #[test]
+    fn direct() {
+        let base = |unit: &EvcBlock| EvcMv {
+            x: 101 * unit.x as i16,
+            y: -99,
+        };
+        let col_mv = collocated(68, 36, base);
+        assert_eq!(col_mv.len(), 4 * 17 * 9);
+        for moved in blocks(68, 36, |_| [EvcMv::default(); 2], &col_mv).unwrap() {
+            let unit = (moved.block.y / 4 * 17 + moved.block.x / 4) as usize;
+            let [x, y] = [col_mv[4 * unit] / 2, col_mv[4 * unit + 1] / 2];
+            assert_eq!(moved.direct, [EvcMv { x, y }, EvcMv { x: -x, y: -y }]);
+        }
     }
 }

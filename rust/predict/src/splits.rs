@@ -8,7 +8,7 @@ pub fn is_clipping_hidden(moved: &Moved) -> Result<bool, Refusal> {
     let b = moved.block;
     let shows =
         |side: u32, mv: i16, clipped: i16| side == 64 && (1..=3).contains(&mv.abs_diff(clipped));
-    for mv in moved.mv {
+    for mv in moved.vectors() {
         let clipped = evc_mv_clip(b, mv)?;
         if shows(b.w, mv.x, clipped.x) || shows(b.h, mv.y, clipped.y) {
             return Ok(false);
@@ -78,11 +78,14 @@ mod tests {
             // past the low limit across by list 0, past the high limit down by list 1
             let (none, low) = (EvcMv::default(), -256 - 4 * 8 - moved);
             let high = 4 * (128 + 64 - side as i16 - 4) + moved;
-            for (block, mv) in [
+            for (block, clipped) in [
                 (block(side, 4), [EvcMv { x: low, y: 0 }, none]),
                 (block(4, side), [none, EvcMv { x: 0, y: high }]),
             ] {
-                assert_eq!(is_clipping_hidden(&Moved { block, mv }), Ok(want));
+                for (mv, direct) in [(clipped, [none; 2]), ([none; 2], clipped)] {
+                    let moved = Moved { block, mv, direct };
+                    assert_eq!(is_clipping_hidden(&moved), Ok(want));
+                }
             }
         }
     }

@@ -5,12 +5,18 @@ use mathlib.Core.Path.{_≡_, refl, sym, _∙_}
 use Prim.Native.Nat.{ℕ}
 use borrow.Author.Needs.{needs}
 use borrow.Author.Tests.{ne-eqb}
+use Rattle.evc_def.specs.Codes.{firstOf, blockChecks}
 use Rattle.evc_def.specs.declared.EvcBlock.{EvcBlock}
+use Rattle.evc_def.proofs.Codes.{stops}
 use Rattle.evc_mc.specs.Block.{RefPicList, refPicList, withSamples, listSample, firstSample, isBi, mc2Code, mc2First, mc2Second}
 use Rattle.evc_mc.proofs.evc_mc2.Statement.{statement}
 use Rattle.evc_mc.proofs.evc_mc2.Tie as tie
 
 module _ (b : EvcBlock) (l m : RefPicList) (p q : List ℕ) where
+  block-refused : (code : ℕ) → code ≡ firstOf (blockChecks b) → (code ≡ 0 → ⊥) → code ≡ mc2Code b l m p q
+  unfolding mc2Code
+  block-refused code e n = e ∙ sym (stops (blockChecks b) _ (λ z. n (e ∙ z)))
+
   untouched : (code : ℕ) → code ≡ mc2Code b l m p q → (code ≡ 0 → ⊥) → (p ≡ mc2First b l m p q) × (q ≡ mc2Second b l m p q)
   unfolding mc2First mc2Second
   untouched code e n = rw (sym e, ne-eqb code 0 n) (refl, refl)
@@ -20,31 +26,58 @@ module _ (b : EvcBlock) (l m : RefPicList) (p q : List ℕ) where
   unfolding mc2First mc2Second
   predicted z d e f g = rw z (f, g)
 
+abbrev start : tie.After-block-code → tie.Start
+start c = c .before .before .before .before .before .before .before .before .before
+
 returns : tie.Need-returns
 returns c =
-    let a = c .before .before .before .before .before .before .before .before .before .before .before .before .args in
-    let e = c .before .mc2-code .ensures in
+    let a = start (c .before) .args in
+    let e = block-refused (a .block) (refPicList (a .list0) (a .y0 .now) (a .u0 .now) (a .v0 .now)) (refPicList (a .list1) (a .y1 .now) (a .u1 .now) (a .v1 .now)) (a .pred0 .now) (a .pred1 .now) _ (c .before .block-code .ensures) (c .if1 .taken) in
     (e, untouched (a .block) (refPicList (a .list0) (a .y0 .now) (a .u0 .now) (a .v0 .now)) (refPicList (a .list1) (a .y1 .now) (a .u1 .now) (a .v1 .now)) (a .pred0 .now) (a .pred1 .now) _ e (c .if1 .taken))
 
-accepted : (c : tie.Else1) → let a = c .before .before .before .before .before .before .before .before .before .before .before .before .args in mc2Code (a .block) (refPicList (a .list0) (a .y0 .now) (a .u0 .now) (a .v0 .now)) (refPicList (a .list1) (a .y1 .now) (a .u1 .now) (a .v1 .now)) (a .pred0 .now) (a .pred1 .now) ≡ 0
-accepted c = sym (c .before .mc2-code .ensures) ∙ c .if1 .left
+good : (c : tie.Else1) → firstOf (blockChecks (start (c .before) .args .block)) ≡ 0
+good c = sym (c .before .block-code .ensures) ∙ c .if1 .left
+
+mc2-code-requires : tie.Need-mc2-code-requires
+mc2-code-requires c κs =
+    let k = c .before .before in
+    (good (k .before .before), k .before .clipped-place .ensures, k .clipped-place2 .ensures)
 
 returns-2 : tie.Need-returns-2
 returns-2 c =
+    let a = start (c .before .before .before .before .before .before .before) .args in
+    let e = c .before .mc2-code .ensures in
+    (e, untouched (a .block) (refPicList (a .list0) (a .y0 .now) (a .u0 .now) (a .v0 .now)) (refPicList (a .list1) (a .y1 .now) (a .u1 .now) (a .v1 .now)) (a .pred0 .now) (a .pred1 .now) _ e (c .if2 .taken))
+
+accepted : (c : tie.Else2) → let a = start (c .before .before .before .before .before .before .before) .args in mc2Code (a .block) (refPicList (a .list0) (a .y0 .now) (a .u0 .now) (a .v0 .now)) (refPicList (a .list1) (a .y1 .now) (a .u1 .now) (a .v1 .now)) (a .pred0 .now) (a .pred1 .now) ≡ 0
+accepted c = sym (c .before .mc2-code .ensures) ∙ c .if2 .left
+
+predict-lists-requires : tie.Need-predict-lists-requires
+predict-lists-requires c κs =
+    let f = c .before .before in
+    let k = f .before .before .before .before in
+    ((k .before .clipped-place .ensures, k .clipped-place2 .ensures), accepted f)
+
+returns-3 : tie.Need-returns-3
+returns-3 c =
     let k = c .before .before .before .before in
-    let e = k .before .before .before in
-    let a = e .before .before .before .before .before .before .before .before .before .before .before .before .args in
-    (e .before .mc2-code .ensures, predicted (a .block) (refPicList (a .list0) (a .y0 .now) (a .u0 .now) (a .v0 .now)) (refPicList (a .list1) (a .y1 .now) (a .u1 .now) (a .v1 .now)) (a .pred0 .now) (a .pred1 .now) (accepted e) _ _ (k .predict-lists .ensures .0) (k .predict-lists .ensures .1))
+    let f = k .before .before .before in
+    let a = start (f .before .before .before .before .before .before .before) .args in
+    (f .before .mc2-code .ensures, predicted (a .block) (refPicList (a .list0) (a .y0 .now) (a .u0 .now) (a .v0 .now)) (refPicList (a .list1) (a .y1 .now) (a .u1 .now) (a .v1 .now)) (a .pred0 .now) (a .pred1 .now) (accepted f) _ _ (k .predict-lists .ensures .0) (k .predict-lists .ensures .1))
 
 pub evc-mc2-spec : {M : Type 1} → statement M
 evc-mc2-spec =
     tie.close
     (tie.spec
     (λ c κs. search needs)
-    (λ c. search needs)
-    (λ c. search needs)
     returns
-    (λ c κs. accepted (c .before .before))
+    (λ c κs. good c)
+    (λ c κs. good (c .before))
+    mc2-code-requires
     (λ c. search needs)
     (λ c. search needs)
-    returns-2)
+    returns-2
+    predict-lists-requires
+    (λ c. search needs)
+    (λ c. search needs)
+    returns-3)

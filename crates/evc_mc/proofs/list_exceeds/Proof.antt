@@ -39,29 +39,30 @@ used c = not-false _ (c .if1 .left)
 
 window-exceeds-requires : tie.Need-window-exceeds-requires
 window-exceeds-requires c κs =
-    let e = c .before .before .before in
+    let e = c .before .before in
     let s = e .before .before .before .before .before in
     let a = s .args in
-    let z = sides (a .b) (s .pre .0) in
+    let z = sides (a .b) (s .pre .0 .0) in
     ((z .picture, z .w-side, z .h-side), list-long (a .b) (refPicList (a .list) (a .y .now) (a .u .now) (a .v .now)) (used e) (s .pre .1) luma)
 
 windows-exceed-requires : tie.Need-windows-exceed-requires
 windows-exceed-requires c κs =
-    let e = c .before .before .before .before in
+    let e = c .before .before .before in
     let s = e .before .before .before .before .before in
     let a = s .args in
-    let z = sides (a .b) (s .pre .0) in
+    let z = sides (a .b) (s .pre .0 .0) in
     let l = list-long (a .b) (refPicList (a .list) (a .y .now) (a .u .now) (a .v .now)) (used e) (s .pre .1) in
     ((z .picture, plane-side UV (a .b .w) (z .w-side), plane-side UV (a .b .h) (z .h-side)), (l cb, l cr))
 
 returns-2 : tie.Need-returns-2
 returns-2 c =
-    let e = c .before .before .before .before .before in
-    let a = e .before .before .before .before .before .args in
-    exceeds-is (a .b) (refPicList (a .list) (a .y .now) (a .u .now) (a .v .now)) _ _ _ (used e) (c .before .before .before .before .clipped-place .ensures)
+    let e = c .before .before .before .before in
+    let s = e .before .before .before .before .before in
+    let a = s .args in
+    exceeds-is (a .b) (refPicList (a .list) (a .y .now) (a .u .now) (a .v .now)) _ _ _ (used e) (s .pre .0 .1)
     (c .before .window-exceeds .ensures) (c .windows-exceed .ensures)
 
 pub list-exceeds-spec : {M : Type 1} → statement M
 list-exceeds-spec =
     tie.close
-    (tie.spec returns (λ c κs. search needs) window-exceeds-requires windows-exceed-requires returns-2)
+    (tie.spec returns window-exceeds-requires windows-exceed-requires returns-2)

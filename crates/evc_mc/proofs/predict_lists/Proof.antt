@@ -12,27 +12,27 @@ use Rattle.evc_mc.proofs.predict_lists.Statement.{statement}
 use Rattle.evc_mc.proofs.predict_lists.Tie as tie
 
 good : (s : tie.Start) → let a = s .args in Accepted (a .b) (refPicList (a .list0) (a .y0 .now) (a .u0 .now) (a .v0 .now)) (refPicList (a .list1) (a .y1 .now) (a .u1 .now) (a .v1 .now)) (a .pred0 .now) (a .pred1 .now)
-good s = let a = s .args in accepts (a .b) (refPicList (a .list0) (a .y0 .now) (a .u0 .now) (a .v0 .now)) (refPicList (a .list1) (a .y1 .now) (a .u1 .now) (a .v1 .now)) (a .pred0 .now) (a .pred1 .now) (s .pre)
+good s = let a = s .args in accepts (a .b) (refPicList (a .list0) (a .y0 .now) (a .u0 .now) (a .v0 .now)) (refPicList (a .list1) (a .y1 .now) (a .u1 .now) (a .v1 .now)) (a .pred0 .now) (a .pred1 .now) (s .pre .1)
 
 abbrev start : tie.After-same-motion → tie.Start
-start c = c .before .before .before .before .before .before .before .before .before .before .before .before .before .before .before .before .before .before .before .before
+start c = c .before .before .before .before .before .before .before .before .before .before .before .before .before .before .before .before .before .before
 
 abbrev first : tie.After-same-motion → tie.After-predict-list
 first c = c .before .before .before .before .before
 
 predict-list-requires : tie.Need-predict-list-requires
 predict-list-requires c κs =
-    let s = c .before .before .before .before .before .before .before .before .before .before .before .before .before .before in
+    let s = c .before .before .before .before .before .before .before .before .before .before .before .before in
     let a = s .args in
     let g = good s in
-    let e = c .before .before .before .before .before .clipped-place .ensures in
+    let e = s .pre .0 .0 in
     ((g .block, e), (list-examined (a .b) (refPicList (a .list0) (a .y0 .now) (a .u0 .now) (a .v0 .now)) _ (g .l-short) (g .l-exceeds) e, (g .p-long, g .q-long)))
 
 -- the test of the code is that of the definition
 motion : (c : tie.After-same-motion) → let a = start c .args in c .same-motion .result ≡ sameMotion (a .b) (a .list0) (a .list1)
 motion c =
     let a = start c .args in
-    same-motion-is (a .b) (a .list0) (a .list1) _ _ _ (first c .before .before .before .before .before .before .clipped-place .ensures) (first c .before .before .before .before .before .clipped-place2 .ensures) (c .same-motion .ensures)
+    same-motion-is (a .b) (a .list0) (a .list1) _ _ _ (start c .pre .0 .0) (start c .pre .0 .1) (c .same-motion .ensures)
 
 returns : tie.Need-returns
 returns c =
@@ -48,7 +48,7 @@ predict-list-requires-2 c κs =
     let s = start k in
     let a = s .args in
     let g = good s in
-    let e = c .before .before .before .before .before .before .before .before .before .before .before .before .before .clipped-place2 .ensures in
+    let e = s .pre .0 .1 in
     let n = c .before .before .before .before .before .before .before .before .predict-list .kept .1 .1 .1 .1 .1 .1 in
     ((g .block, e), (list-examined (a .b) (refPicList (a .list1) (a .y1 .now) (a .u1 .now) (a .v1 .now)) _ (g .m-short) (g .m-exceeds) e, (omega (arith, n .0, g .p-long), omega (arith, n .1 .0, g .q-long))))
 
@@ -96,8 +96,6 @@ pub predict-lists-spec : {M : Type 1} → statement M
 predict-lists-spec =
     tie.close
     (tie.spec
-    (λ c κs. good (c .before .before .before .before .before .before .before .before) .block)
-    (λ c κs. good (c .before .before .before .before .before .before .before .before .before) .block)
     predict-list-requires
     (λ c κs. search needs)
     (λ c. search needs)

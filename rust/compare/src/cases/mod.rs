@@ -7,6 +7,8 @@ pub mod invisible;
 pub mod one_plane;
 pub mod padded;
 pub mod padding;
+pub mod replay;
+pub mod trace;
 pub mod units;
 
 use crate::archive::Calls;

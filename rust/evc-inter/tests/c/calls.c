@@ -1,4 +1,4 @@
-/* The archive from C: the header's layout, and each call with a line of document 01 and a refusal. */
+/* The archive from C: the header's layout, and each call with a line of document 01 or 02 and a refusal. */
 #include <stdio.h>
 #include <string.h>
 #include "evc_inter.h"
@@ -14,6 +14,9 @@ SIZE(EvcAvail, 8, 4); AT(EvcAvail, avail, 4);
 SIZE(EvcClipped, 8, 4); AT(EvcClipped, mv, 4);
 SIZE(EvcDirect, 12, 4); AT(EvcDirect, mv0, 4); AT(EvcDirect, mv1, 8);
 SIZE(EvcCandidates, 20, 2); AT(EvcCandidates, up, 4); AT(EvcCandidates, up_right, 8); AT(EvcCandidates, collocated, 12); AT(EvcCandidates, refi, 16);
+SIZE(EvcTraceRecord, 22, 2); AT(EvcTraceRecord, x, 0); AT(EvcTraceRecord, y, 2); AT(EvcTraceRecord, w, 4); AT(EvcTraceRecord, h, 6); AT(EvcTraceRecord, kind, 8);
+AT(EvcTraceRecord, mv0, 10); AT(EvcTraceRecord, mv1, 14); AT(EvcTraceRecord, poc0, 18); AT(EvcTraceRecord, poc1, 20);
+SIZE(EvcReplay, 16, 8); AT(EvcReplay, code, 0); AT(EvcReplay, index, 8);
 
 static int failed;
 #define HOLDS(what) ((what) ? (void)0 : (void)(failed = 1, printf("line %d: %s\n", __LINE__, #what)))
@@ -21,6 +24,7 @@ static int failed;
 /* A picture of 8 by 8: strides 176 and 96, rows 168 and 84. */
 enum { LUMA = 176 * 168, CHROMA = 96 * 84, CU = 6144 };
 static uint16_t y0[LUMA], u0[CHROMA], v0[CHROMA], y1[LUMA], u1[CHROMA], v1[CHROMA], pred0[CU], pred1[CU], kept[CU];
+static uint16_t y[LUMA], u[CHROMA], v[CHROMA];
 
 static void grey(uint16_t *plane, size_t len, uint16_t sample) {
     for (size_t k = 0; k < len; k++) plane[k] = sample;
@@ -78,6 +82,41 @@ int main(void) {
     HOLDS(!memcmp(kept, pred0, sizeof kept));
     HOLDS(evc_mc2(b, unused, NULL, 0, NULL, 0, NULL, 0, list1, y1, LUMA, u1, CHROMA, v1, CHROMA, pred0, CU, pred1, CU) == 0);
     HOLDS(pred0[4096] == 4);
+
+    /* A trace of two records: list 0 as above, and direct in the upper left. */
+    uint8_t trace[13 + 22 + 22 + 1];
+    uint8_t want[13 + 22] = {'I', 'P', 'T', 1, 0, 8, 0, 8, 0, 4, 0, 2, 1, 4, 0, 4, 0, 4, 0, 4, 0, 0, 251, 255, 2};
+    EvcTraceRecord from0 = {4, 4, 4, 4, 0, {-5, 2}, {0, 0}, 0, 0}, direct8 = {0, 0, 4, 4, 3, {0, 0}, {0, 0}, 0, 8}, above = from0;
+    above.kind = 4;
+    memset(trace, 9, sizeof trace);
+    HOLDS(evc_trace_write_header(10, 8, 4, 258, trace, 12) == 1 && evc_trace_write_header(8, 8, 4, 258, trace, 12) == 4 && trace[0] == 9);
+    HOLDS(evc_trace_write_header(8, 8, 4, 258, trace, 13) == 0);
+    HOLDS(evc_trace_write_record(8, 10, above, trace + 13, 21) == 1 && evc_trace_write_record(8, 8, above, trace + 13, 21) == 4);
+    HOLDS(evc_trace_write_record(8, 8, above, trace + 13, 22) == 12 && trace[13] == 9);
+    HOLDS(evc_trace_write_record(8, 8, from0, trace + 13, 22) == 0);
+    HOLDS(!memcmp(trace, want, sizeof want) && trace[35] == 9);
+    HOLDS(evc_trace_write_header(8, 8, 4, 0, trace, 13) == 0 && evc_trace_write_record(8, 8, direct8, trace + 35, 22) == 0 && trace[57] == 9);
+
+    grey(y, LUMA, 9), grey(u, CHROMA, 9), grey(v, CHROMA, 9);
+#define REPLAY(trace_len, y0_len, v_len) \
+    evc_trace_replay(trace, trace_len, y0, y0_len, u0, CHROMA, v0, CHROMA, y1, LUMA, u1, CHROMA, v1, CHROMA, true, col, 16, y, LUMA, u, CHROMA, v, v_len)
+    EvcReplay r = REPLAY(12, LUMA - 1, CHROMA);
+    HOLDS(r.code == 11 && r.index == 0);
+    r = REPLAY(57, LUMA - 1, CHROMA);
+    HOLDS(r.code == 4 && r.index == 0);
+    r = REPLAY(57, LUMA, CHROMA - 1);
+    HOLDS(r.code == 4 && r.index == 0);
+    trace[3] = 2, r = REPLAY(57, LUMA, CHROMA), trace[3] = 1;
+    HOLDS(r.code == 10 && r.index == 0 && y[84 * 176 + 84] == 9);
+    r = REPLAY(56, LUMA, CHROMA);
+    HOLDS(r.code == 11 && r.index == 1); /* the first record's block is there, the second's is not */
+    HOLDS(y[84 * 176 + 84] == 3 && u[42 * 96 + 50] == 3 && v[43 * 96 + 51] == 3 && y[80 * 176 + 80] == 9);
+    r = REPLAY(57, LUMA, CHROMA);
+    HOLDS(r.code == 0 && r.index == 2);
+    HOLDS(y[83 * 176 + 83] == 4 && u[40 * 96 + 48] == 4); /* the average of 3 and 4 */
+    HOLDS(y[79 * 176 + 80] == 9 && y[80 * 176 + 79] == 9 && y[88 * 176 + 87] == 9 && y[80 * 176 + 84] == 9); /* the border, and outside the blocks */
+    r = REPLAY(58, LUMA, CHROMA);
+    HOLDS(r.code == 11 && r.index == 2); /* a trace has no excess */
 
     puts(failed ? "the archive does not hold" : "the archive holds from C");
     return failed;

@@ -2,7 +2,7 @@
 
 use oracle::cases::{clip, corners, hash, Component, Padding, Rng};
 use oracle::plane_config;
-use oracle::{mc2_lists, mc_lists, util_lists};
+use oracle::{mc2_lists, mc_lists, replay_lists, util_lists};
 use std::fmt::Write;
 use std::path::Path;
 use std::{env, fs, io};
@@ -140,6 +140,15 @@ fn write_mc2(dir: &Path) -> io::Result<()> {
     write_lists(dir, lists)
 }
 
+/// Traces to replay: the Rust's answers, and refusals by document 02.
+fn write_replay(dir: &Path) -> io::Result<()> {
+    let lists = [
+        ("replay", replay_lists::accepted()),
+        ("replay_bad", replay_lists::bad()),
+    ];
+    write_lists(dir, lists)
+}
+
 fn main() -> io::Result<()> {
     let dir = env::args_os().nth(1).expect("usage: lists DIR");
     let dir = Path::new(&dir);
@@ -148,5 +157,6 @@ fn main() -> io::Result<()> {
     write_pad(dir)?;
     write_util(dir)?;
     write_mc_plane(dir)?;
-    write_mc2(dir)
+    write_mc2(dir)?;
+    write_replay(dir)
 }

@@ -1,0 +1,246 @@
+ghost use mathlib.Core.Path.{_≡_};
+ghost use mathlib.Core.Bool.{false};
+ghost use mathlib.Core.List.{[], _∷_, _++_};
+ghost use Prim.Native.Nat.{ℕ, _+_, _≤_, _<_};
+ghost use lib.ListN.{length};
+ghost use Rattle.evc_int.specs.Whole.{_modulo_};
+ghost use Rattle.evc_int.specs.LowBits.{signed16};
+ghost use Rattle.evc_def.specs.Blocks.{badPicture};
+ghost use Rattle.evc_trace.specs.Bytes.{bytesOf, numberAt, written, overwritten};
+ghost use Rattle.evc_trace.specs.Format.{version, countLen, headerLen, recordLen, mark, headerBytes, isTrace, headerOf, mvOf, mvBytes, recordBytes, recordOf, isZeroMv, isWellFormed, writeHeaderCode, writeHeaderAfter, writeRecordCode, writeRecordAfter};
+use evc_def::EvcMv;
+
+pub const HEADER_LEN: usize = 13;
+
+pub const RECORD_LEN: usize = 22;
+
+const VERSION: u16 = 1;
+
+// The picture's sides, its order count, and the first count that the collocated reference lists.
+pub struct TraceHeader {
+    pub pic_w: u32,
+    pub pic_h: u32,
+    pub poc: u32,
+    pub list_poc0: u32,
+}
+
+// The fields of a record, as wide as in the trace.
+#[repr(C)]
+pub struct EvcTraceRecord {
+    pub x: u16,
+    pub y: u16,
+    pub w: u16,
+    pub h: u16,
+    pub kind: u8,
+    pub mv0: EvcMv,
+    pub mv1: EvcMv,
+    pub poc0: u16,
+    pub poc1: u16,
+}
+
+// ---- numbers
+
+fn put8(out: &mut [u8], at: usize, byte: u8)
+    requires { ⌜ at < length (now out) ⌝ }
+    ensures { λ _. ⌜ now (out .exit) ≡ written (now (out .entry)) at (byte ∷ []) ⌝ }
+{
+    out[at] = byte;
+}
+
+fn put16(out: &mut [u8], at: usize, v: u16)
+    requires { ⌜ at + 2 ≤ length (now out) ⌝ }
+    ensures { λ _. ⌜ now (out .exit) ≡ written (now (out .entry)) at (bytesOf 2 v) ⌝ }
+{
+    put8(out, at, (v % 256) as u8);
+    put8(out, at + 1, (v / 256 % 256) as u8);
+}
+
+fn put_pair(out: &mut [u8], at: usize, a: u16, b: u16)
+    requires { ⌜ at + 4 ≤ length (now out) ⌝ }
+    ensures { λ _. ⌜ now (out .exit) ≡ written (now (out .entry)) at (bytesOf 2 a ++ bytesOf 2 b) ⌝ }
+{
+    put16(out, at, a);
+    put16(out, at + 2, b);
+}
+
+// The sixteen bits of a signed number.
+fn bits16(v: i16) -> u16
+    ensures { λ r. ⌜ r ≡ v modulo 65536 ⌝ }
+{
+    if v < 0 {
+        return (v as i32 + 65536) as u16;
+    }
+    v as u16
+}
+
+fn put_mv(out: &mut [u8], at: usize, mv: EvcMv)
+    requires { ⌜ at + 4 ≤ length (now out) ⌝ }
+    ensures { λ _. ⌜ now (out .exit) ≡ written (now (out .entry)) at (mvBytes mv) ⌝ }
+{
+    put_pair(out, at, bits16(mv.x), bits16(mv.y));
+}
+
+fn wide(b: u8) -> u16
+    ensures { λ r. ⌜ (r ≡ b) × (r < 256) ⌝ }
+{
+    b as u16
+}
+
+fn number16(s: &[u8], at: usize) -> u16
+    requires { ⌜ at + 2 ≤ length (now s) ⌝ }
+    ensures { λ r. ⌜ r ≡ numberAt 2 (now (s .entry)) at ⌝ }
+{
+    let low = wide(s[at]);
+    let high = wide(s[at + 1]);
+    low + 256 * high
+}
+
+fn component(s: &[u8], at: usize) -> i16
+    requires { ⌜ at + 2 ≤ length (now s) ⌝ }
+    ensures { λ r. ⌜ r ≡ signed16 (numberAt 2 (now (s .entry)) at) ⌝ }
+{
+    evc_int::low16(number16(s, at) as i32)
+}
+
+fn mv_at(s: &[u8], at: usize) -> EvcMv
+    requires { ⌜ at + 4 ≤ length (now s) ⌝ }
+    ensures { λ r. ⌜ r ≡ mvOf (now (s .entry)) at ⌝ }
+{
+    EvcMv {
+        x: component(s, at),
+        y: component(s, at + 2),
+    }
+}
+
+// ---- form
+
+fn is_zero_mv(mv: EvcMv) -> bool
+    ensures { λ r. ⌜ r ≡ isZeroMv mv ⌝ }
+{
+    (mv.x == 0) & (mv.y == 0)
+}
+
+pub fn is_well_formed(r: EvcTraceRecord) -> bool
+    ensures { λ b. ⌜ b ≡ isWellFormed r ⌝ }
+{
+    let zero0 = is_zero_mv(r.mv0);
+    let zero1 = is_zero_mv(r.mv1);
+    (r.kind <= 3)
+        & ((r.kind != 0) | (zero1 & (r.poc1 == 0)))
+        & ((r.kind != 1) | (zero0 & (r.poc0 == 0)))
+        & ((r.kind != 3) | (zero0 & zero1))
+}
+
+// ---- the readers, each over a part that starts at the header or at the record
+
+pub fn is_trace(s: &[u8]) -> bool
+    requires { ⌜ headerLen countLen ≤ length (now s) ⌝ }
+    ensures { λ r. ⌜ r ≡ isTrace version (now (s .entry)) ⌝ }
+{
+    let version = number16(s, 3);
+    (s[0] == b'I') & (s[1] == b'P') & (s[2] == b'T') & (version == VERSION)
+}
+
+pub fn read_header(s: &[u8]) -> TraceHeader
+    requires { ⌜ headerLen countLen ≤ length (now s) ⌝ }
+    ensures { λ r. ⌜ r ≡ headerOf countLen (now (s .entry)) ⌝ }
+{
+    let pic_w = number16(s, 5);
+    let pic_h = number16(s, 7);
+    let poc = number16(s, 9);
+    let list_poc0 = number16(s, 11);
+    TraceHeader {
+        pic_w: pic_w as u32,
+        pic_h: pic_h as u32,
+        poc: poc as u32,
+        list_poc0: list_poc0 as u32,
+    }
+}
+
+pub fn read_record(s: &[u8]) -> EvcTraceRecord
+    requires { ⌜ recordLen countLen ≤ length (now s) ⌝ }
+    ensures { λ r. ⌜ r ≡ recordOf countLen (now (s .entry)) ⌝ }
+{
+    EvcTraceRecord {
+        x: number16(s, 0),
+        y: number16(s, 2),
+        w: number16(s, 4),
+        h: number16(s, 6),
+        kind: s[8],
+        mv0: mv_at(s, 9),
+        mv1: mv_at(s, 13),
+        poc0: number16(s, 17),
+        poc1: number16(s, 19),
+    }
+}
+
+// ---- the writers
+
+fn put_mark(out: &mut [u8])
+    requires { ⌜ 5 ≤ length (now out) ⌝ }
+    ensures { λ _. ⌜ now (out .exit) ≡ written (now (out .entry)) 0 (mark version) ⌝ }
+{
+    put8(out, 0, b'I');
+    put8(out, 1, b'P');
+    put8(out, 2, b'T');
+    put16(out, 3, VERSION);
+}
+
+fn put_header(pic_w: u16, pic_h: u16, poc: u16, list_poc0: u16, out: &mut [u8])
+    requires { ⌜ headerLen countLen ≤ length (now out) ⌝ }
+    ensures { λ _. ⌜ now (out .exit) ≡ overwritten (headerBytes version countLen (record { «pic_w» = «pic_w»; «pic_h» = «pic_h»; poc = poc; «list_poc0» = «list_poc0» })) (now (out .entry)) ⌝ }
+{
+    put_mark(out);
+    put_pair(out, 5, pic_w, pic_h);
+    put_pair(out, 9, poc, list_poc0);
+}
+
+fn put_record(r: EvcTraceRecord, out: &mut [u8])
+    requires { ⌜ recordLen countLen ≤ length (now out) ⌝ }
+    ensures { λ _. ⌜ now (out .exit) ≡ overwritten (recordBytes countLen r) (now (out .entry)) ⌝ }
+{
+    put_pair(out, 0, r.x, r.y);
+    put_pair(out, 4, r.w, r.h);
+    put8(out, 8, r.kind);
+    put_mv(out, 9, r.mv0);
+    put_mv(out, 13, r.mv1);
+    put_pair(out, 17, r.poc0, r.poc1);
+    put8(out, 21, 0);
+}
+
+pub fn evc_trace_write_header(
+    pic_w: u32,
+    pic_h: u32,
+    poc: u16,
+    list_poc0: u16,
+    out: &mut [u8],
+) -> u32
+    ensures { λ r. ⌜ r ≡ writeHeaderCode «pic_w» «pic_h» (now (out .entry)) ⌝ }
+    ensures { λ _. ⌜ now (out .exit) ≡ writeHeaderAfter (record { «pic_w» = «pic_w»; «pic_h» = «pic_h»; poc = poc; «list_poc0» = «list_poc0» }) (now (out .entry)) ⌝ }
+{
+    if evc_def::bad_picture(pic_w, pic_h) {
+        return 1;
+    }
+    if out.len() < HEADER_LEN {
+        return 4;
+    }
+    put_header(pic_w as u16, pic_h as u16, poc, list_poc0, out);
+    0
+}
+
+pub fn evc_trace_write_record(pic_w: u32, pic_h: u32, rec: EvcTraceRecord, out: &mut [u8]) -> u32
+    ensures { λ r. ⌜ r ≡ writeRecordCode «pic_w» «pic_h» rec (now (out .entry)) ⌝ }
+    ensures { λ _. ⌜ now (out .exit) ≡ writeRecordAfter «pic_w» «pic_h» rec (now (out .entry)) ⌝ }
+{
+    if evc_def::bad_picture(pic_w, pic_h) {
+        return 1;
+    }
+    if out.len() < RECORD_LEN {
+        return 4;
+    }
+    if !is_well_formed(rec) {
+        return 12;
+    }
+    put_record(rec, out);
+    0
+}

@@ -1,0 +1,5 @@
+pub mod Bytes
+pub mod RoundTrip
+pub mod Records
+pub mod Samples
+pub mod Replays

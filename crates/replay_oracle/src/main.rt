@@ -1,0 +1,3 @@
+fn main() {
+    replay_text::run();
+}
