@@ -143,9 +143,7 @@ pub extern "C" fn evc_mc2(
     ensures { λ _. ⌜ now (pred0 .exit) ≡ mc2First block (refPicList list0 (now (y0 .entry)) (now (u0 .entry)) (now (v0 .entry))) (refPicList list1 (now (y1 .entry)) (now (u1 .entry)) (now (v1 .entry))) (now (pred0 .entry)) (now (pred1 .entry)) ⌝ }
     ensures { λ _. ⌜ now (pred1 .exit) ≡ mc2Second block (refPicList list0 (now (y0 .entry)) (now (u0 .entry)) (now (v0 .entry))) (refPicList list1 (now (y1 .entry)) (now (u1 .entry)) (now (v1 .entry))) (now (pred0 .entry)) (now (pred1 .entry)) ⌝ }
 {
-    evc_mc::evc_mc2(
-        block, list0, &*y0, &*u0, &*v0, list1, &*y1, &*u1, &*v1, pred0, pred1,
-    )
+    evc_mc::evc_mc2(block, list0, y0, u0, v0, list1, y1, u1, v1, pred0, pred1)
 }
 
 // The header of a trace.

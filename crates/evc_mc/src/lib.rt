@@ -76,14 +76,7 @@ fn poc_exceeds(list: EvcList) -> bool
     list.used & (MAX_POC < list.poc)
 }
 
-fn list_exceeds(
-    b: EvcBlock,
-    list: EvcList,
-    gmv: EvcMv,
-    y: &[u16],
-    u: &[u16],
-    v: &[u16],
-) -> bool
+fn list_exceeds(b: EvcBlock, list: EvcList, gmv: EvcMv, y: &[u16], u: &[u16], v: &[u16]) -> bool
     requires { ⌜ (firstOf (blockChecks b) ≡ 0) × (gmv ≡ clippedPlace b (list .mv)) ⌝ }
     requires { ⌜ listShort b (refPicList list (now y) (now u) (now v)) ≡ false ⌝ }
     ensures { λ r. ⌜ r ≡ listExceeds b (refPicList list (now (y .entry)) (now (u .entry)) (now (v .entry))) ⌝ }
@@ -331,9 +324,7 @@ fn predict_lists(
     if both & same_motion(list0, gmv0, list1, gmv1) {
         return;
     }
-    predict_list(
-        b, list1, gmv1, &*y1, &*u1, &*v1, pred0, pred1, list0.used,
-    );
+    predict_list(b, list1, gmv1, &*y1, &*u1, &*v1, pred0, pred1, list0.used);
     if both {
         average_block(b, pred0, pred1);
     }
@@ -363,13 +354,37 @@ pub fn evc_mc2(
     let gmv0 = clipped_place(block, list0.mv);
     let gmv1 = clipped_place(block, list1.mv);
     let code = mc2_code(
-        block, list0, gmv0, &*y0, &*u0, &*v0, list1, gmv1, &*y1, &*u1, &*v1, pred0, pred1,
+        block,
+        list0,
+        gmv0,
+        &*y0,
+        &*u0,
+        &*v0,
+        list1,
+        gmv1,
+        &*y1,
+        &*u1,
+        &*v1,
+        pred0,
+        pred1,
     );
     if code != 0 {
         return code;
     }
     predict_lists(
-        block, list0, gmv0, &*y0, &*u0, &*v0, list1, gmv1, &*y1, &*u1, &*v1, pred0, pred1,
+        block,
+        list0,
+        gmv0,
+        &*y0,
+        &*u0,
+        &*v0,
+        list1,
+        gmv1,
+        &*y1,
+        &*u1,
+        &*v1,
+        pred0,
+        pred1,
     );
     code
 }

@@ -166,9 +166,7 @@ fn predict_record(
     let b = block_of(h, r);
     let l0 = list0(r, m);
     let l1 = list1(r, m);
-    evc_mc::evc_mc2(
-        b, l0, &*y0, &*u0, &*v0, l1, &*y1, &*u1, &*v1, pred0, pred1,
-    )
+    evc_mc::evc_mc2(b, l0, y0, u0, v0, l1, y1, u1, v1, pred0, pred1)
 }
 
 // One record: its number, and on 0 its block in the target.
