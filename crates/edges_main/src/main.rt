@@ -6,6 +6,7 @@ ghost use Rattle.evc_def.specs.Blocks.{badPicture};
 use evc_def::EvcBlock;
 use evc_def::EvcMv;
 use evc_mc::EvcList;
+use evc_mc::PRED_LEN;
 use evc_plane::PlaneType;
 use evc_util::EvcCandidates;
 use evc_util::Pocs;
@@ -19,8 +20,6 @@ const CHROMA_LEN: usize = 4160 * 82;
 const UNITS: usize = 2032;
 
 const MOTION_LEN: usize = 8128;
-
-const PRED_LEN: usize = 6144;
 
 // ---- the number that each call returns
 

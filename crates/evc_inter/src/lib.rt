@@ -166,13 +166,13 @@ pub extern "C" fn evc_trace_write_header(
 pub extern "C" fn evc_trace_write_record(
     pic_w: u32,
     pic_h: u32,
-    rec: EvcTraceRecord,
+    trace_record: EvcTraceRecord,
     out: &mut [u8],
 ) -> u32
-    ensures { λ r. ⌜ r ≡ writeRecordCode «pic_w» «pic_h» rec (now (out .entry)) ⌝ }
-    ensures { λ _. ⌜ now (out .exit) ≡ writeRecordAfter «pic_w» «pic_h» rec (now (out .entry)) ⌝ }
+    ensures { λ r. ⌜ r ≡ writeRecordCode «pic_w» «pic_h» «trace_record» (now (out .entry)) ⌝ }
+    ensures { λ _. ⌜ now (out .exit) ≡ writeRecordAfter «pic_w» «pic_h» «trace_record» (now (out .entry)) ⌝ }
 {
-    evc_trace::evc_trace_write_record(pic_w, pic_h, rec, out)
+    evc_trace::evc_trace_write_record(pic_w, pic_h, trace_record, out)
 }
 
 // A trace's records, replayed into the target.

@@ -52,7 +52,7 @@ fn clipped_place(b: EvcBlock, mv: EvcMv) -> EvcMv
 
 // ---- the checks, each over one list
 
-const PRED_LEN: usize = 6144;
+pub const PRED_LEN: usize = 6144;
 
 pub fn planes_short(pic_w: u32, pic_h: u32, y: &[u16], u: &[u16], v: &[u16]) -> bool
     requires { ⌜ badPicture «pic_w» «pic_h» ≡ false ⌝ }

@@ -14,6 +14,7 @@ ghost use Rattle.evc_replay.specs.Replay.{pictureShort, headerCode, reco
 use evc_def::EvcBlock;
 use evc_def::EvcMv;
 use evc_mc::EvcList;
+use evc_mc::PRED_LEN;
 use evc_plane::PlaneType;
 use evc_trace::EvcTraceRecord;
 use evc_trace::HEADER_LEN;
@@ -142,8 +143,6 @@ fn put_block(b: EvcBlock, pred: &[u16], y: &mut [u16], u: &mut [u16], v: &mut [u
     put_component(PlaneType::UV, b, pred, offset_u, u);
     put_component(PlaneType::UV, b, pred, offset_v, v);
 }
-
-const PRED_LEN: usize = 6144;
 
 // A record's block, predicted into the first of two blocks.
 fn predict_record(

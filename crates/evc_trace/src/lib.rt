@@ -228,9 +228,14 @@ pub fn evc_trace_write_header(
     0
 }
 
-pub fn evc_trace_write_record(pic_w: u32, pic_h: u32, rec: EvcTraceRecord, out: &mut [u8]) -> u32
-    ensures { λ r. ⌜ r ≡ writeRecordCode «pic_w» «pic_h» rec (now (out .entry)) ⌝ }
-    ensures { λ _. ⌜ now (out .exit) ≡ writeRecordAfter «pic_w» «pic_h» rec (now (out .entry)) ⌝ }
+pub fn evc_trace_write_record(
+    pic_w: u32,
+    pic_h: u32,
+    trace_record: EvcTraceRecord,
+    out: &mut [u8],
+) -> u32
+    ensures { λ r. ⌜ r ≡ writeRecordCode «pic_w» «pic_h» «trace_record» (now (out .entry)) ⌝ }
+    ensures { λ _. ⌜ now (out .exit) ≡ writeRecordAfter «pic_w» «pic_h» «trace_record» (now (out .entry)) ⌝ }
 {
     if evc_def::bad_picture(pic_w, pic_h) {
         return 1;
@@ -238,9 +243,9 @@ pub fn evc_trace_write_record(pic_w: u32, pic_h: u32, rec: EvcTraceRecord, out: 
     if out.len() < RECORD_LEN {
         return 4;
     }
-    if !is_well_formed(rec) {
+    if !is_well_formed(trace_record) {
         return 12;
     }
-    put_record(rec, out);
+    put_record(trace_record, out);
     0
 }

@@ -5,6 +5,7 @@
 use evc_def::EvcBlock;
 use evc_def::EvcMv;
 use evc_mc::EvcList;
+use evc_mc::PRED_LEN;
 use evc_plane::PlaneType;
 use libc::STDOUT_FILENO;
 
@@ -18,8 +19,6 @@ const LUMA_LEN: usize = 39424;
 const CHROMA_LEN: usize = 10752;
 
 const ORIGIN: usize = 80;
-
-const PRED_LEN: usize = 6144;
 
 // What a lent block holds before the call, and still after a refusal; no line has it.
 const OLD: u16 = 7;
