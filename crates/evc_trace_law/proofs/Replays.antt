@@ -1,26 +1,28 @@
 -- W1's laws of replay: the record count, one trace behind the other, a refusal, and what the target keeps. Assumes nothing.
 use mathlib.Core.Bool.{Bool, true, false, cond, _&&_}
-use mathlib.Core.List.{List, [], _∷_, _++_}
+use mathlib.Core.List.{List, [], _∷_, _++_, append-assoc}
 use mathlib.Core.Path.{_≡_, refl, sym, ap, ap₂, subst, _∙_}
-use Prim.Native.Nat.{ℕ, zero, suc, _+_, _*_, _<_, _≤_}
+use Prim.Native.Nat.{ℕ, zero, suc, _+_, _-_, _*_, _/_, _<_, _≤_}
 use native.Mathlib.Nat.{add-zero, zero-add, add-assoc}
 use native.Mathlib.Omega.{arith}
-use borrow.Author.Tests.{ne-eqb, eq-eqb, le-ltb}
-use lib.Dec.{T, eqb, eqb→eq}
+use borrow.Author.Tests.{ne-eqb, eq-eqb, le-ltb, ltb-true, ltb-false}
+use lib.Dec.{T, ltb, eqb, eqb→eq}
 use lib.IntN.{ℤ}
-use lib.ListN.{length, getD, take, drop, length-append, List·getD-append, take-append-drop}
+use lib.ListN.{length, getD, take, drop, length-append, length-drop, List·getD-append, take-append-drop}
 use lib.Seq.{length-take-le}
 use Rattle.evc_def.specs.Codes.{firstOf, blockChecks}
 use Rattle.evc_trace.specs.Bytes.{numberAt}
 use Rattle.evc_trace.specs.Format.{version, countLen, headerLen, isTrace, headerOf}
 use Rattle.evc_trace.specs.declared.TraceHeader.{TraceHeader}
 use Rattle.evc_replay.specs.Record.{Planes, Source, source, recordCode, targetAfter}
-use Rattle.evc_replay.specs.Replay.{pictureShort, headerCode, Replayed, recordsFrom, applied, replayed}
-use Rattle.evc_replay.proofs.Records.{no-more}
+use Rattle.evc_replay.specs.Replay.{pictureShort, headerCode, Replayed, recordsAt, recordsFrom, applied, replayed}
+use Rattle.evc_replay.proofs.Header.{code-11}
+use Rattle.evc_replay.proofs.Records.{no-more, ended}
 use Rattle.evc_mc.specs.Block.{Component, luma, cb, cr}
 use Rattle.evc_mc.proofs.Checks.{sides}
-use Rattle.evc_trace_law.specs.Replays.{Whole, countedFrom, replay, Counted, OneAfterAnother, Refused, planeIn, blockAt, OutsideBlock, OutsideKept, BorderKept, ExcessKept, LengthsKept, Replays}
+use Rattle.evc_trace_law.specs.Replays.{Whole, countedFrom, replay, Counted, OneAfterAnother, Refused, Complete, planeIn, blockAt, OutsideBlock, OutsideKept, BorderKept, ExcessKept, LengthsKept, Replays}
 use Rattle.evc_trace_law.proofs.Records.{records-append, records-count}
+use Rattle.evc_trace_law.proofs.Complete.{header-not-11, whole-not-11, part-11}
 use Rattle.evc_trace_law.proofs.Samples.{applied-length, finished, outside-kept, accepted-block, block-inside, excess-outside}
 
 -- ---- the records of a list
@@ -28,6 +30,10 @@ use Rattle.evc_trace_law.proofs.Samples.{applied-length, finished, outs
 -- b over what a left, unless a was refused: its records count on from a's
 unfoldable continued : Source → List (List ℕ) → Replayed → Replayed
 continued e b r = cond (eqb (r .answer .code) 0) (applied e b (r .answer .index) (r .target)) r
+
+goes-on : (e : Source) (b : List (List ℕ)) (r : Replayed) → r .answer .code ≡ 0 → continued e b r ≡ applied e b (r .answer .index) (r .target)
+unfolding continued
+goes-on e b r z = rw z
 
 one-after-another : (e : Source) (a b : List (List ℕ)) (k : ℕ) (t : Planes) → applied e (a ++ b) k t ≡ continued e b (applied e a k t)
 unfolding applied continued
@@ -114,9 +120,9 @@ module _ (p q : Planes) (has : Bool) (col : List ℤ) (t : Planes) where
       ∙ one-after-another (from a) (recordsFrom a 13) (recordsFrom b 0) 0 t
       ∙ ap (continued (from a) (recordsFrom b 0)) (sym (begun a e))
 
-  refused : Refused p q has col t
+  whole-refused : (a b : List ℕ) (n : ℕ) → Whole a n → (replay p q has col t a .answer .code ≡ 0 → ⊥) → replay p q has col t (a ++ b) ≡ replay p q has col t a
   unfolding continued
-  refused a b n w z = go (eqb (headerCode a p q has col t) 0) refl
+  whole-refused a b n w z = go (eqb (headerCode a p q has col t) 0) refl
     where
       go : (c : Bool) → eqb (headerCode a p q has col t) 0 ≡ c → replay p q has col t (a ++ b) ≡ replay p q has col t a
       go true e = together a b n w (eqb→eq _ 0 (subst T (sym e) tt)) ∙ rw (ne-eqb (replay p q has col t a .answer .code) 0 z)
@@ -129,28 +135,28 @@ module _ (p q : Planes) (has : Bool) (col : List ℤ) (t : Planes) where
   -- ---- what the target keeps
 
   -- of every trace: its records were applied, or nothing was
-  by-header : (P : Replayed → Type 0) (s : List ℕ) → P (applied (from s) (recordsFrom s 13) 0 t) → ((c : ℕ) → P (record { answer = record { code = c; index = 0 }; target = t })) → P (replay p q has col t s)
+  by-header : (P : Replayed → Type 0) (s : List ℕ) → P (applied (from s) (recordsFrom s 13) 0 t) → ((c : ℕ) → c ≡ headerCode s p q has col t → P (record { answer = record { code = c; index = 0 }; target = t })) → P (replay p q has col t s)
   by-header P s f g = go (eqb (headerCode s p q has col t) 0) refl
     where
       go : (c : Bool) → eqb (headerCode s p q has col t) 0 ≡ c → P (replay p q has col t s)
       go true e = subst P (sym (begun s (eqb→eq _ 0 (subst T (sym e) tt)))) f
-      go false e = subst P (sym (not-begun s (λ h. subst T (sym (eq-eqb _ 0 h) ∙ e) tt))) (g _)
+      go false e = subst P (sym (not-begun s (λ h. subst T (sym (eq-eqb _ 0 h) ∙ e) tt))) (g _ refl)
 
   lengths : (s : List ℕ) → LengthsKept p q has col t s
-  lengths s c = by-header (λ (r : Replayed). length (planeIn c (r .target)) ≡ length (planeIn c t)) s (applied-length (from s) (recordsFrom s 13) 0 t c) (λ k. refl)
+  lengths s c = by-header (λ (r : Replayed). length (planeIn c (r .target)) ≡ length (planeIn c t)) s (applied-length (from s) (recordsFrom s 13) 0 t c) (λ k _. refl)
 
   outside : (s : List ℕ) → OutsideKept p q has col t s
   outside s c i =
       by-header (λ (r : Replayed). ((j : ℕ) → j < r .answer .index → OutsideBlock (blockAt s j) c i) → getD (planeIn c (r .target)) i 0 ≡ getD (planeIn c t) i 0) s
       (λ o. outside-kept (from s) (recordsFrom s 13) 0 t c i (λ j l. o j (omega arith)))
-      (λ k o. refl)
+      (λ k _ o. refl)
 
   -- a finished record's block is accepted
   good : (s : List ℕ) (j : ℕ) → j < replay p q has col t s .answer .index → firstOf (blockChecks (blockAt s j)) ≡ 0
   good s j =
       by-header (λ (r : Replayed). j < r .answer .index → firstOf (blockChecks (blockAt s j)) ≡ 0) s
       (λ l. accepted-block (from s) (getD (recordsFrom s 13) j []) (finished (from s) (recordsFrom s 13) 0 t j (omega arith)))
-      (λ k l. absurd (omega arith))
+      (λ k _ l. absurd (omega arith))
 
   borders : (s : List ℕ) → BorderKept p q has col t s
   borders s c i o = outside s c i (λ j l. block-inside (blockAt s j) (good s j l) c i o)
@@ -186,6 +192,76 @@ module _ (p q : Planes) (has : Bool) (col : List ℤ) (t : Planes) where
       none : (h : List ℕ) → length h ≡ 13 → recordsFrom h 13 ≡ []
       none h e = no-more h 13 (omega arith)
 
+-- ---- 11
+
+module _ (p q : Planes) (has : Bool) (col : List ℤ) (t : Planes) where
+  complete : Complete p q has col t
+  complete s n w = by-header p q has col t (λ (r : Replayed). r .answer .code ≡ 11 → ⊥) s records header
+    where
+      records : applied (from p q has col t s) (recordsFrom s 13) 0 t .answer .code ≡ 11 → ⊥
+      records = let e : (length s - 13 + 21) / 22 ≡ n = omega arith in subst (λ (m : ℕ). applied (from p q has col t s) (recordsAt s 13 m) 0 t .answer .code ≡ 11 → ⊥) (sym e) (whole-not-11 (from p q has col t s) s 13 n 0 t (omega arith))
+
+      header : (c : ℕ) → c ≡ headerCode s p q has col t → c ≡ 11 → ⊥
+      header c e z = header-not-11 s p q has col t (omega arith) (sym e ∙ z)
+
+  -- a trace as its whole records and what is left
+  module _ (a b : List ℕ) (l : 13 ≤ length a) where
+    abbrev count-of : ℕ
+    count-of = (length a - 13) / 22
+
+    abbrev cut : ℕ
+    cut = 13 + 22 * count-of
+
+    cut-inside : cut ≤ length a
+    cut-inside = omega arith
+
+    whole-part : Whole (take cut a) count-of
+    whole-part = length-take-le cut a cut-inside
+
+    rejoined : take cut a ++ drop cut a ≡ a
+    rejoined = take-append-drop cut a
+
+    longer : take cut a ++ (drop cut a ++ b) ≡ a ++ b
+    longer = sym (append-assoc (take cut a) (drop cut a) b) ∙ ap (λ (s : List ℕ). s ++ b) rejoined
+
+    left-short : length (drop cut a) < 22
+    left-short = omega (arith, length-drop cut a)
+
+    -- refused among the whole records
+    refused-before : (replay p q has col t (take cut a) .answer .code ≡ 0 → ⊥) → replay p q has col t (a ++ b) ≡ replay p q has col t a
+    refused-before z =
+        ap (replay p q has col t) (sym longer)
+        ∙ whole-refused p q has col t (take cut a) (drop cut a ++ b) count-of whole-part z
+        ∙ sym (whole-refused p q has col t (take cut a) (drop cut a) count-of whole-part z)
+        ∙ ap (replay p q has col t) rejoined
+
+    -- or at what is left: with 11, or not at all
+    at-the-end : replay p q has col t (take cut a) .answer .code ≡ 0 → (replay p q has col t a .answer .code ≡ 0 → ⊥) → replay p q has col t a .answer .code ≡ 11
+    at-the-end z n =
+        let w = take cut a in
+        let d = drop cut a in
+        let e = ap (replay p q has col t) (sym rejoined) ∙ together p q has col t w d count-of whole-part (header-good p q has col t w z) in
+        go (length d) refl (e ∙ goes-on (from p q has col t w) (recordsFrom d 0) (replay p q has col t w) z)
+      where
+        go : (m : ℕ) → length (drop cut a) ≡ m
+            → replay p q has col t a ≡ applied (from p q has col t (take cut a)) (recordsFrom (drop cut a) 0) (replay p q has col t (take cut a) .answer .index) (replay p q has col t (take cut a) .target)
+            → replay p q has col t a .answer .code ≡ 11
+        go zero m e = absurd (n (ap (λ (r : Replayed). r .answer .code) e ∙ sym (ap (λ (r : Replayed). r .answer .code) (ended _ (drop cut a) 0 _ _ (omega arith)))))
+        go (suc k) m e = ap (λ (r : Replayed). r .answer .code) e ∙ part-11 _ (drop cut a) _ _ (omega arith) left-short
+
+  refused : Refused p q has col t
+  refused a b z n = go (ltb (length a) 13) refl
+    where
+      go : (c : Bool) → ltb (length a) 13 ≡ c → replay p q has col t (a ++ b) ≡ replay p q has col t a
+      go true e =
+          let h = code-11 a p q has col t (ltb-true _ _ e) in
+          absurd (n (ap (λ (r : Replayed). r .answer .code) (not-begun p q has col t a (λ k. let m = h ∙ k in omega arith)) ∙ sym h))
+      go false e = by-code (eqb (replay p q has col t (take (cut a b (ltb-false _ _ e)) a) .answer .code) 0) refl
+        where
+          by-code : (c : Bool) → eqb (replay p q has col t (take (cut a b (ltb-false _ _ e)) a) .answer .code) 0 ≡ c → replay p q has col t (a ++ b) ≡ replay p q has col t a
+          by-code true k = absurd (n (at-the-end a b (ltb-false _ _ e) (eqb→eq _ 0 (subst T (sym k) tt)) z))
+          by-code false k = refused-before a b (ltb-false _ _ e) (λ h. subst T (sym (eq-eqb _ 0 h) ∙ k) tt)
+
 pub replays : Replays
 replays p q has col t =
-    (count p q has col t, continues p q has col t, refused p q has col t, λ s. (outside p q has col t s, borders p q has col t s, excess p q has col t s, lengths p q has col t s))
+    (count p q has col t, continues p q has col t, refused p q has col t, complete p q has col t, λ s. (outside p q has col t s, borders p q has col t s, excess p q has col t s, lengths p q has col t s))

@@ -37,9 +37,12 @@ module _ (p q : Planes) (has : Bool) (col : List ℤ) (t : Planes) where
       (a b : List ℕ) (n : ℕ) → Whole a n → replay a .answer .code ≡ 0
       → replay (a ++ b) ≡ countedFrom n (replayed (take (headerLen countLen) a ++ b) p q has col (replay a .target))
 
-  -- where a record of a is refused, or its header, what follows is not looked at
+  -- where the header or a record of a is refused, what follows is not looked at; only 11 may come of what is missing
   abbrev pub Refused : Type 0
-  Refused = (a b : List ℕ) (n : ℕ) → Whole a n → (replay a .answer .code ≡ 0 → ⊥) → replay (a ++ b) ≡ replay a
+  Refused = (a b : List ℕ) → (replay a .answer .code ≡ 0 → ⊥) → (replay a .answer .code ≡ 11 → ⊥) → replay (a ++ b) ≡ replay a
+
+  abbrev pub Complete : Type 0
+  Complete = (s : List ℕ) (n : ℕ) → Whole s n → replay s .answer .code ≡ 11 → ⊥
 
 -- ---- what stays as it was
 
@@ -86,5 +89,5 @@ module _ (p q : Planes) (has : Bool) (col : List ℤ) (t : Planes) (s : List ℕ
 abbrev pub Replays : Type 0
 Replays =
     (p q : Planes) (has : Bool) (col : List ℤ) (t : Planes)
-    → Counted p q has col t × OneAfterAnother p q has col t × Refused p q has col t
+    → Counted p q has col t × OneAfterAnother p q has col t × Refused p q has col t × Complete p q has col t
     × ((s : List ℕ) → OutsideKept p q has col t s × BorderKept p q has col t s × ExcessKept p q has col t s × LengthsKept p q has col t s)
