@@ -139,9 +139,18 @@ pub extern "C" fn evc_mc2(
     pred0: &mut [u16],
     pred1: &mut [u16],
 ) -> u32
-    ensures { λ r. ⌜ r ≡ mc2Code block (refPicList list0 (now (y0 .entry)) (now (u0 .entry)) (now (v0 .entry))) (refPicList list1 (now (y1 .entry)) (now (u1 .entry)) (now (v1 .entry))) (now (pred0 .entry)) (now (pred1 .entry)) ⌝ }
-    ensures { λ _. ⌜ now (pred0 .exit) ≡ mc2First block (refPicList list0 (now (y0 .entry)) (now (u0 .entry)) (now (v0 .entry))) (refPicList list1 (now (y1 .entry)) (now (u1 .entry)) (now (v1 .entry))) (now (pred0 .entry)) (now (pred1 .entry)) ⌝ }
-    ensures { λ _. ⌜ now (pred1 .exit) ≡ mc2Second block (refPicList list0 (now (y0 .entry)) (now (u0 .entry)) (now (v0 .entry))) (refPicList list1 (now (y1 .entry)) (now (u1 .entry)) (now (v1 .entry))) (now (pred0 .entry)) (now (pred1 .entry)) ⌝ }
+    ensures { λ r. ⌜ (
+        let l0 = refPicList list0 (now (y0 .entry)) (now (u0 .entry)) (now (v0 .entry)) in
+        let l1 = refPicList list1 (now (y1 .entry)) (now (u1 .entry)) (now (v1 .entry)) in
+        r ≡ mc2Code block l0 l1 (now (pred0 .entry)) (now (pred1 .entry))) ⌝ }
+    ensures { λ _. ⌜ (
+        let l0 = refPicList list0 (now (y0 .entry)) (now (u0 .entry)) (now (v0 .entry)) in
+        let l1 = refPicList list1 (now (y1 .entry)) (now (u1 .entry)) (now (v1 .entry)) in
+        now (pred0 .exit) ≡ mc2First block l0 l1 (now (pred0 .entry)) (now (pred1 .entry))) ⌝ }
+    ensures { λ _. ⌜ (
+        let l0 = refPicList list0 (now (y0 .entry)) (now (u0 .entry)) (now (v0 .entry)) in
+        let l1 = refPicList list1 (now (y1 .entry)) (now (u1 .entry)) (now (v1 .entry)) in
+        now (pred1 .exit) ≡ mc2Second block l0 l1 (now (pred0 .entry)) (now (pred1 .entry))) ⌝ }
 {
     evc_mc::evc_mc2(block, list0, y0, u0, v0, list1, y1, u1, v1, pred0, pred1)
 }
@@ -191,7 +200,11 @@ pub extern "C" fn evc_trace_replay(
     u: &mut [u16],
     v: &mut [u16],
 ) -> EvcReplay
-    ensures { λ r. ⌜ record { answer = r; target = planes (now (y .exit)) (now (u .exit)) (now (v .exit)) } ≡ replayed (now (trace .entry)) (planes (now (y0 .entry)) (now (u0 .entry)) (now (v0 .entry))) (planes (now (y1 .entry)) (now (u1 .entry)) (now (v1 .entry))) «has_col» (now («col_mv» .entry)) (planes (now (y .entry)) (now (u .entry)) (now (v .entry))) ⌝ }
+    ensures { λ r. ⌜ (
+        let ref0 = planes (now (y0 .entry)) (now (u0 .entry)) (now (v0 .entry)) in
+        let ref1 = planes (now (y1 .entry)) (now (u1 .entry)) (now (v1 .entry)) in
+        let target = planes (now (y .entry)) (now (u .entry)) (now (v .entry)) in
+        record { answer = r; target = planes (now (y .exit)) (now (u .exit)) (now (v .exit)) } ≡ replayed (now (trace .entry)) ref0 ref1 «has_col» (now («col_mv» .entry)) target) ⌝ }
 {
     evc_replay::evc_trace_replay(trace, y0, u0, v0, y1, u1, v1, has_col, col_mv, y, u, v)
 }

@@ -10,6 +10,7 @@ ghost use Rattle.evc_plane.specs.Planes.{sideOf, planeLen};
 ghost use Rattle.evc_filter.specs.Filter.{phases, lead, reach, interpolated, interpolatedTwice};
 ghost use Rattle.evc_filter.specs.Code.{isRowWidth};
 ghost use Rattle.evc_interp.specs.Prediction.{phaseOf, placeOf, isFiltered, startOf, windowOf, isSide, windowExceeds, mcPlaneCode, mcPlaneAfter};
+ghost use Rattle.evc_interp.specs.declared.Position.{Position};
 ghost use Rattle.evc_interp.specs.Code.{Within, positionOf, Readable, sampleFrom};
 use evc_def::EvcMv;
 use evc_def::Pel;
@@ -363,7 +364,9 @@ pub fn predict(
     pred: &mut [u16],
 )
     requires { ⌜ Readable t (record { stride = stride; at = at; across = across; down = down; dx = dx; dy = dy }) w h (now plane) × (h * w ≤ length (now pred)) ⌝ }
-    ensures { λ _. ⌜ now (pred .exit) ≡ withBlock (now (pred .entry)) 0 w w h (sampleFrom t (record { stride = stride; at = at; across = across; down = down; dx = dx; dy = dy }) (now (plane .entry))) ⌝ }
+    ensures { λ _. ⌜ (
+        let p : Position = record { stride = stride; at = at; across = across; down = down; dx = dx; dy = dy } in
+        now (pred .exit) ≡ withBlock (now (pred .entry)) 0 w w h (sampleFrom t p (now (plane .entry)))) ⌝ }
 {
     // One call for one direction: with two it would not be built into this function.
     match across & down {

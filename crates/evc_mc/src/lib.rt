@@ -107,7 +107,10 @@ fn mc2_code(
     pred1: &[u16],
 ) -> u32
     requires { ⌜ (firstOf (blockChecks b) ≡ 0) × (gmv0 ≡ clippedPlace b (list0 .mv)) × (gmv1 ≡ clippedPlace b (list1 .mv)) ⌝ }
-    ensures { λ r. ⌜ r ≡ mc2Code b (refPicList list0 (now (y0 .entry)) (now (u0 .entry)) (now (v0 .entry))) (refPicList list1 (now (y1 .entry)) (now (u1 .entry)) (now (v1 .entry))) (now (pred0 .entry)) (now (pred1 .entry)) ⌝ }
+    ensures { λ r. ⌜ (
+        let l0 = refPicList list0 (now (y0 .entry)) (now (u0 .entry)) (now (v0 .entry)) in
+        let l1 = refPicList list1 (now (y1 .entry)) (now (u1 .entry)) (now (v1 .entry)) in
+        r ≡ mc2Code b l0 l1 (now (pred0 .entry)) (now (pred1 .entry))) ⌝ }
 {
     if !(list0.used | list1.used) {
         return 3;
@@ -343,9 +346,18 @@ pub fn evc_mc2(
     pred0: &mut [u16],
     pred1: &mut [u16],
 ) -> u32
-    ensures { λ r. ⌜ r ≡ mc2Code block (refPicList list0 (now (y0 .entry)) (now (u0 .entry)) (now (v0 .entry))) (refPicList list1 (now (y1 .entry)) (now (u1 .entry)) (now (v1 .entry))) (now (pred0 .entry)) (now (pred1 .entry)) ⌝ }
-    ensures { λ _. ⌜ now (pred0 .exit) ≡ mc2First block (refPicList list0 (now (y0 .entry)) (now (u0 .entry)) (now (v0 .entry))) (refPicList list1 (now (y1 .entry)) (now (u1 .entry)) (now (v1 .entry))) (now (pred0 .entry)) (now (pred1 .entry)) ⌝ }
-    ensures { λ _. ⌜ now (pred1 .exit) ≡ mc2Second block (refPicList list0 (now (y0 .entry)) (now (u0 .entry)) (now (v0 .entry))) (refPicList list1 (now (y1 .entry)) (now (u1 .entry)) (now (v1 .entry))) (now (pred0 .entry)) (now (pred1 .entry)) ⌝ }
+    ensures { λ r. ⌜ (
+        let l0 = refPicList list0 (now (y0 .entry)) (now (u0 .entry)) (now (v0 .entry)) in
+        let l1 = refPicList list1 (now (y1 .entry)) (now (u1 .entry)) (now (v1 .entry)) in
+        r ≡ mc2Code block l0 l1 (now (pred0 .entry)) (now (pred1 .entry))) ⌝ }
+    ensures { λ _. ⌜ (
+        let l0 = refPicList list0 (now (y0 .entry)) (now (u0 .entry)) (now (v0 .entry)) in
+        let l1 = refPicList list1 (now (y1 .entry)) (now (u1 .entry)) (now (v1 .entry)) in
+        now (pred0 .exit) ≡ mc2First block l0 l1 (now (pred0 .entry)) (now (pred1 .entry))) ⌝ }
+    ensures { λ _. ⌜ (
+        let l0 = refPicList list0 (now (y0 .entry)) (now (u0 .entry)) (now (v0 .entry)) in
+        let l1 = refPicList list1 (now (y1 .entry)) (now (u1 .entry)) (now (v1 .entry)) in
+        now (pred1 .exit) ≡ mc2Second block l0 l1 (now (pred0 .entry)) (now (pred1 .entry))) ⌝ }
 {
     let block_code = evc_def::block_code(block);
     if block_code != 0 {

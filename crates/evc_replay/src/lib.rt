@@ -159,8 +159,14 @@ fn predict_record(
     pred1: &mut [u16],
 ) -> u32
     requires { ⌜ (length (now pred0) ≡ predLen) × (length (now pred1) ≡ predLen) ⌝ }
-    ensures { λ c. ⌜ c ≡ mc2Code (blockOf h r) (refPicList (list0Of r m) (now (y0 .entry)) (now (u0 .entry)) (now (v0 .entry))) (refPicList (list1Of r m) (now (y1 .entry)) (now (u1 .entry)) (now (v1 .entry))) blank blank ⌝ }
-    ensures { λ c. ⌜ (c ≡ 0 → now (pred0 .exit) ≡ withSamples (blockOf h r) (firstSample (blockOf h r) (refPicList (list0Of r m) (now (y0 .entry)) (now (u0 .entry)) (now (v0 .entry))) (refPicList (list1Of r m) (now (y1 .entry)) (now (u1 .entry)) (now (v1 .entry)))) (now (pred0 .entry))) ⌝ }
+    ensures { λ c. ⌜ (
+        let l0 = refPicList (list0Of r m) (now (y0 .entry)) (now (u0 .entry)) (now (v0 .entry)) in
+        let l1 = refPicList (list1Of r m) (now (y1 .entry)) (now (u1 .entry)) (now (v1 .entry)) in
+        c ≡ mc2Code (blockOf h r) l0 l1 blank blank) ⌝ }
+    ensures { λ c. ⌜ (
+        let l0 = refPicList (list0Of r m) (now (y0 .entry)) (now (u0 .entry)) (now (v0 .entry)) in
+        let l1 = refPicList (list1Of r m) (now (y1 .entry)) (now (u1 .entry)) (now (v1 .entry)) in
+        c ≡ 0 → now (pred0 .exit) ≡ withSamples (blockOf h r) (firstSample (blockOf h r) l0 l1) (now (pred0 .entry))) ⌝ }
 {
     let b = block_of(h, r);
     let l0 = list0(r, m);
@@ -188,8 +194,15 @@ fn replay_record(
 ) -> u32
     requires { ⌜ pictureShort (h .«pic_w») (h .«pic_h») (planes (now y) (now u) (now v)) ≡ false ⌝ }
     requires { ⌜ (length (now pred0) ≡ predLen) × (length (now pred1) ≡ predLen) ⌝ }
-    ensures { λ c. ⌜ c ≡ recordCode (source h (planes (now (y0 .entry)) (now (u0 .entry)) (now (v0 .entry))) (planes (now (y1 .entry)) (now (u1 .entry)) (now (v1 .entry))) «has_col» (now («col_mv» .entry))) (now (s .entry)) ⌝ }
-    ensures { λ c. ⌜ planes (now (y .exit)) (now (u .exit)) (now (v .exit)) ≡ afterRecord (source h (planes (now (y0 .entry)) (now (u0 .entry)) (now (v0 .entry))) (planes (now (y1 .entry)) (now (u1 .entry)) (now (v1 .entry))) «has_col» (now («col_mv» .entry))) (now (s .entry)) (planes (now (y .entry)) (now (u .entry)) (now (v .entry))) ⌝ }
+    ensures { λ c. ⌜ (
+        let ref0 = planes (now (y0 .entry)) (now (u0 .entry)) (now (v0 .entry)) in
+        let ref1 = planes (now (y1 .entry)) (now (u1 .entry)) (now (v1 .entry)) in
+        c ≡ recordCode (source h ref0 ref1 «has_col» (now («col_mv» .entry))) (now (s .entry))) ⌝ }
+    ensures { λ c. ⌜ (
+        let ref0 = planes (now (y0 .entry)) (now (u0 .entry)) (now (v0 .entry)) in
+        let ref1 = planes (now (y1 .entry)) (now (u1 .entry)) (now (v1 .entry)) in
+        let target = planes (now (y .entry)) (now (u .entry)) (now (v .entry)) in
+        planes (now (y .exit)) (now (u .exit)) (now (v .exit)) ≡ afterRecord (source h ref0 ref1 «has_col» (now («col_mv» .entry))) (now (s .entry)) target) ⌝ }
 {
     let form = form_code(s);
     if form != 0 {
@@ -239,7 +252,12 @@ fn replay_records(
     v: &mut [u16],
 ) -> EvcReplay
     requires { ⌜ (pictureShort (h .«pic_w») (h .«pic_h») (planes (now y) (now u) (now v)) ≡ false) × (headerLen countLen ≤ length (now trace)) ⌝ }
-    ensures { λ r. ⌜ record { answer = r; target = planes (now (y .exit)) (now (u .exit)) (now (v .exit)) } ≡ applied (source h (planes (now (y0 .entry)) (now (u0 .entry)) (now (v0 .entry))) (planes (now (y1 .entry)) (now (u1 .entry)) (now (v1 .entry))) «has_col» (now («col_mv» .entry))) (recordsFrom (now (trace .entry)) (headerLen countLen)) 0 (planes (now (y .entry)) (now (u .entry)) (now (v .entry))) ⌝ }
+    ensures { λ r. ⌜ (
+        let ref0 = planes (now (y0 .entry)) (now (u0 .entry)) (now (v0 .entry)) in
+        let ref1 = planes (now (y1 .entry)) (now (u1 .entry)) (now (v1 .entry)) in
+        let from = source h ref0 ref1 «has_col» (now («col_mv» .entry)) in
+        let target = planes (now (y .entry)) (now (u .entry)) (now (v .entry)) in
+        record { answer = r; target = planes (now (y .exit)) (now (u .exit)) (now (v .exit)) } ≡ applied from (recordsFrom (now (trace .entry)) (headerLen countLen)) 0 target) ⌝ }
 {
     let mut pred0 = [0u16; PRED_LEN];
     let mut pred1 = [0u16; PRED_LEN];
@@ -286,7 +304,11 @@ fn header_code(
     u: &[u16],
     v: &[u16],
 ) -> u32
-    ensures { λ r. ⌜ r ≡ headerCode (now (trace .entry)) (planes (now (y0 .entry)) (now (u0 .entry)) (now (v0 .entry))) (planes (now (y1 .entry)) (now (u1 .entry)) (now (v1 .entry))) «has_col» (now («col_mv» .entry)) (planes (now (y .entry)) (now (u .entry)) (now (v .entry))) ⌝ }
+    ensures { λ r. ⌜ (
+        let ref0 = planes (now (y0 .entry)) (now (u0 .entry)) (now (v0 .entry)) in
+        let ref1 = planes (now (y1 .entry)) (now (u1 .entry)) (now (v1 .entry)) in
+        let target = planes (now (y .entry)) (now (u .entry)) (now (v .entry)) in
+        r ≡ headerCode (now (trace .entry)) ref0 ref1 «has_col» (now («col_mv» .entry)) target) ⌝ }
 {
     if trace.len() < HEADER_LEN {
         return 11;
@@ -322,7 +344,11 @@ pub fn evc_trace_replay(
     u: &mut [u16],
     v: &mut [u16],
 ) -> EvcReplay
-    ensures { λ r. ⌜ record { answer = r; target = planes (now (y .exit)) (now (u .exit)) (now (v .exit)) } ≡ replayed (now (trace .entry)) (planes (now (y0 .entry)) (now (u0 .entry)) (now (v0 .entry))) (planes (now (y1 .entry)) (now (u1 .entry)) (now (v1 .entry))) «has_col» (now («col_mv» .entry)) (planes (now (y .entry)) (now (u .entry)) (now (v .entry))) ⌝ }
+    ensures { λ r. ⌜ (
+        let ref0 = planes (now (y0 .entry)) (now (u0 .entry)) (now (v0 .entry)) in
+        let ref1 = planes (now (y1 .entry)) (now (u1 .entry)) (now (v1 .entry)) in
+        let target = planes (now (y .entry)) (now (u .entry)) (now (v .entry)) in
+        record { answer = r; target = planes (now (y .exit)) (now (u .exit)) (now (v .exit)) } ≡ replayed (now (trace .entry)) ref0 ref1 «has_col» (now («col_mv» .entry)) target) ⌝ }
 {
     let code = header_code(trace, y0, u0, v0, y1, u1, v1, has_col, col_mv, y, u, v);
     if code != 0 {

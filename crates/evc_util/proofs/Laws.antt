@@ -73,16 +73,19 @@ module _ (b : EvcBlock) (lidx avail avail′ : ℕ) (map map′ : List ℤ) (has
   pub candidates-local : isBit 1 avail ≡ isBit 1 avail′ → isBit 0 avail ≡ isBit 0 avail′ → isBit 6 avail ≡ isBit 6 avail′ → (isBit 1 avail ≡ true → mvAt map (scup b - 1) lidx ≡ mvAt map′ (scup b - 1) lidx) → (isBit 0 avail ≡ true → mvAt map (scup b - wScu b) lidx ≡ mvAt map′ (scup b - wScu b) lidx) → (isBit 6 avail ≡ true → mvAt map (scup b - wScu b + scuw b) lidx ≡ mvAt map′ (scup b - wScu b + scuw b) lidx) → (has ≡ true → mvAt col (scup b) 0 ≡ mvAt col′ (scup b) 0) → candidates b lidx avail map has col old ≡ candidates b lidx avail′ map′ has col′ old
   unfolding candidates
   candidates-local p q r left up up-right fourth =
-      rw (
-        same-where map map′ lidx (scup b - 1) (isBit 1 avail) (isBit 1 avail′) p left,
-        same-where map map′ lidx (scup b - wScu b) (isBit 0 avail) (isBit 0 avail′) q up,
-        same-where map map′ lidx (scup b - wScu b + scuw b) (isBit 6 avail) (isBit 6 avail′) r up-right,
-        kept has fourth,
-      )
+      four _ _ _ _ _ _ _ _ _
+      (same-where map map′ lidx (scup b - 1) (isBit 1 avail) (isBit 1 avail′) p left)
+      (same-where map map′ lidx (scup b - wScu b) (isBit 0 avail) (isBit 0 avail′) q up)
+      (same-where map map′ lidx (scup b - wScu b + scuw b) (isBit 6 avail) (isBit 6 avail′) r up-right)
+      (kept has fourth)
     where
       kept : (t : Bool) → (t ≡ true → mvAt col (scup b) 0 ≡ mvAt col′ (scup b) 0) → cond t (mvAt col (scup b) 0) (old .collocated) ≡ cond t (mvAt col′ (scup b) 0) (old .collocated)
       kept true h = h refl
       kept false h = refl
+
+      four : (f : List ℤ) (l l′ u u′ r r′ k k′ : EvcMv) → l ≡ l′ → u ≡ u′ → r ≡ r′ → k ≡ k′
+          → _≡_ {A = EvcCandidates} (record { left = l; up = u; «up_right» = r; collocated = k; refi = f }) (record { left = l′; up = u′; «up_right» = r′; collocated = k′; refi = f })
+      four f l l′ u u′ r r′ k k′ a b c d = rw (a, b, c, d)
 
 -- ---- direct vectors: the exact quotients, where co is not 0 and all four fit sixteen bits
 

@@ -227,13 +227,10 @@ fn run_calls(
 
 // ---- the planes, and all records
 
-// One sample of plane k, if it is in this plane and the plane is that long.
-fn set_sample(plane: &mut [u16], r: &Record, k: u16) {
-    let place = number(r, SET_PLACE) as usize;
-    if number(r, SET_PLANE) == k {
-        if place < plane.len() {
-            plane[place] = number(r, SET_VALUE);
-        }
+// One sample, if the plane is that long.
+pub fn set_sample(plane: &mut [u16], place: usize, value: u16) {
+    if place < plane.len() {
+        plane[place] = value;
     }
 }
 
@@ -273,7 +270,9 @@ fn make_plane(t: PlaneType, plane: &mut [u16], r: &Record, seed: u64, k: u16)
         number(r, LIMIT),
         number(r, IS_PADDED) == 1,
     );
-    set_sample(plane, r, k);
+    if number(r, SET_PLANE) == k {
+        set_sample(plane, number(r, SET_PLACE) as usize, number(r, SET_VALUE));
+    }
 }
 
 // The three planes of a list, each from the next seed on.

@@ -224,16 +224,6 @@ fn lend_map(
 
 // ---- the planes
 
-// One sample of plane k, if it is in this plane and the plane is that long.
-fn set_sample(plane: &mut [u16], r: &Record, k: u16) {
-    let place = number(r, SET_PLACE) as usize;
-    if number(r, SET_PLANE) == k {
-        if place < plane.len() {
-            plane[place] = number(r, SET_VALUE);
-        }
-    }
-}
-
 // Plane k of the six of both references.
 fn make_plane(t: PlaneType, plane: &mut [u16], r: &Record, seed: u64, k: u16)
     requires { ⌜ seed < 2147483648 ⌝ }
@@ -247,7 +237,9 @@ fn make_plane(t: PlaneType, plane: &mut [u16], r: &Record, seed: u64, k: u16)
         number(r, LIMIT),
         number(r, IS_PADDED) == 1,
     );
-    set_sample(plane, r, k);
+    if number(r, SET_PLANE) == k {
+        mc2_text::set_sample(plane, number(r, SET_PLACE) as usize, number(r, SET_VALUE));
+    }
 }
 
 // The three planes of a reference, each from the next seed on.
