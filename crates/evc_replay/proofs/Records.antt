@@ -7,7 +7,8 @@ use native.Mathlib.Omega.{arith}
 use borrow.Author.Tests.{ne-eqb}
 use lib.Dec.{eqb}
 use lib.ListN.{length, take, drop, length-take, length-drop}
-use Rattle.evc_replay.specs.Record.{Planes, Source, _orElse_, formCode, recordCode, targetAfter, afterRecord}
+use Rattle.evc_replay.specs.Record.{Planes, Source, _orElse_, formCode, recordCode, targetAfter}
+use Rattle.evc_replay.specs.Steps.{afterRecord}
 use Rattle.evc_replay.specs.Replay.{Replayed, recordsAt, recordsFrom, applied}
 use Rattle.evc_replay.proofs.Steps.{whole-record}
 

@@ -141,7 +141,3 @@ planeAfter e s c p = withPicture (stepOf e s .block) c (stepOf e s .sample c) p
 
 unfoldable pub targetAfter : Source → List ℕ → Planes → Planes
 targetAfter e s t = planes (planeAfter e s luma (t .y)) (planeAfter e s cb (t .u)) (planeAfter e s cr (t .v))
-
--- and after any record: as it was, if the record is refused
-unfoldable pub afterRecord : Source → List ℕ → Planes → Planes
-afterRecord e s t = cond (eqb (stepOf e s .code) 0) (targetAfter e s t) t

@@ -7,7 +7,8 @@ use native.Mathlib.Omega.{arith}
 use borrow.Author.Tests.{ne-eqb}
 use lib.ListN.{length, set}
 use lib.Seq.{sets, sets-eq}
-use Rattle.evc_trace.specs.Bytes.{written, overwritten, overwrittenBy}
+use Rattle.evc_trace.specs.Bytes.{overwritten, overwrittenBy}
+use Rattle.evc_trace.specs.Code.{written}
 
 pub stored : (d : List ℕ) (at b : ℕ) → set d at b ≡ written d at (b ∷ [])
 unfolding written

@@ -4,7 +4,6 @@ use Prim.Native.Nat.{ℕ, zero, suc, _+_, _*_, _/_, _%_}
 use mathlib.Core.List.{List, [], _∷_, _++_}
 use lib.Dec.{eqb}
 use lib.ListN.{length, getD, drop}
-use lib.Seq.{sets}
 
 -- a number in n bytes
 abbrev pub bytesOf : ℕ → ℕ → List ℕ
@@ -23,7 +22,3 @@ overwritten bytes d = bytes ++ drop (length bytes) d
 -- after a call with this number: overwritten, and as it was where the call refuses
 unfoldable pub overwrittenBy : ℕ → List ℕ → List ℕ → List ℕ
 overwrittenBy code bytes d = cond (eqb code 0) (overwritten bytes d) d
-
--- for the code: a buffer with these bytes in it from `at` on
-unfoldable pub written : List ℕ → ℕ → List ℕ → List ℕ
-written d at bytes = sets d at bytes

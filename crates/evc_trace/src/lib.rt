@@ -6,7 +6,8 @@ ghost use lib.ListN.{length};
 ghost use Rattle.evc_int.specs.Whole.{_modulo_};
 ghost use Rattle.evc_int.specs.LowBits.{signed16};
 ghost use Rattle.evc_def.specs.Blocks.{badPicture};
-ghost use Rattle.evc_trace.specs.Bytes.{bytesOf, numberAt, written, overwritten};
+ghost use Rattle.evc_trace.specs.Bytes.{bytesOf, numberAt, overwritten};
+ghost use Rattle.evc_trace.specs.Code.{written};
 ghost use Rattle.evc_trace.specs.Format.{version, countLen, headerLen, recordLen, mark, headerBytes, isTrace, headerOf, mvOf, mvBytes, recordBytes, recordOf, isZeroMv, isWellFormed, writeHeaderCode, writeHeaderAfter, writeRecordCode, writeRecordAfter};
 use evc_def::EvcMv;
 

@@ -8,7 +8,8 @@ use mir.Val.{SFits}
 use mir.Facts.{toZ-ofZ}
 use Rattle.evc_int.specs.Whole.{_modulo_}
 use Prim.Native.Nat.{ℕ}
-use Rattle.evc_trace.specs.Bytes.{bytesOf, written}
+use Rattle.evc_trace.specs.Bytes.{bytesOf}
+use Rattle.evc_trace.specs.Code.{written}
 use Rattle.evc_trace.proofs.put_mv.Statement.{statement}
 use Rattle.evc_trace.proofs.put_mv.Tie as tie
 
