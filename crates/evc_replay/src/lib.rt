@@ -46,7 +46,10 @@ fn copy_block(s: &[u16], at: usize, w: usize, h: usize, d: &mut [u16], to: usize
 fn put_component(t: PlaneType, b: EvcBlock, pred: &[u16], offset: usize, plane: &mut [u16])
     requires { ⌜ firstOf (blockChecks b) ≡ 0 ⌝ }
     requires { ⌜ (offset + sideOf t (b .h) * sideOf t (b .w) ≤ length (now pred)) × (planeLen t (b .«pic_w») (b .«pic_h») ≤ length (now plane)) ⌝ }
-    ensures { λ _. ⌜ now (plane .exit) ≡ withBlock (now (plane .entry)) (placeIn t b) (strideOf t (b .«pic_w»)) (sideOf t (b .w)) (sideOf t (b .h)) (λ (y x : ℕ). getD (now (pred .entry)) (offset + y * sideOf t (b .w) + x) 0) ⌝ }
+    ensures { λ _. ⌜ (
+        let w = sideOf t (b .w) in
+        let h = sideOf t (b .h) in
+        now (plane .exit) ≡ withBlock (now (plane .entry)) (placeIn t b) (strideOf t (b .«pic_w»)) w h (λ (y x : ℕ). getD (now (pred .entry)) (offset + y * w + x) 0)) ⌝ }
 {
     let c = evc_plane::plane_config(t, b.pic_w, b.pic_h);
     let x = c.xorigin + evc_plane::side(t, b.x);

@@ -8,7 +8,8 @@ ghost use Rattle.evc_int.specs.LowBits.{signed16};
 ghost use Rattle.evc_def.specs.Blocks.{badPicture};
 ghost use Rattle.evc_trace.specs.Bytes.{bytesOf, numberAt, overwritten};
 ghost use Rattle.evc_trace.specs.Code.{written};
-ghost use Rattle.evc_trace.specs.Format.{version, countLen, headerLen, recordLen, mark, headerBytes, isTrace, headerOf, mvOf, mvBytes, recordBytes, recordOf, isZeroMv, isWellFormed, writeHeaderCode, writeHeaderAfter, writeRecordCode, writeRecordAfter};
+ghost use Rattle.evc_trace.specs.Format.{version, countLen, headerLen, mark, headerBytes, isTrace, headerOf, writeHeaderCode, writeHeaderAfter};
+ghost use Rattle.evc_trace.specs.Format.{recordLen, mvOf, mvBytes, recordBytes, recordOf, isZeroMv, isWellFormed, writeRecordCode, writeRecordAfter};
 use evc_def::EvcMv;
 
 pub const HEADER_LEN: usize = 13;
@@ -189,7 +190,9 @@ fn put_mark(out: &mut [u8])
 
 fn put_header(pic_w: u16, pic_h: u16, poc: u16, list_poc0: u16, out: &mut [u8])
     requires { ⌜ headerLen countLen ≤ length (now out) ⌝ }
-    ensures { λ _. ⌜ now (out .exit) ≡ overwritten (headerBytes version countLen (record { «pic_w» = «pic_w»; «pic_h» = «pic_h»; poc = poc; «list_poc0» = «list_poc0» })) (now (out .entry)) ⌝ }
+    ensures { λ _. ⌜ now (out .exit) ≡ overwritten
+        (headerBytes version countLen (record { «pic_w» = «pic_w»; «pic_h» = «pic_h»; poc = poc; «list_poc0» = «list_poc0» }))
+        (now (out .entry)) ⌝ }
 {
     put_mark(out);
     put_pair(out, 5, pic_w, pic_h);
