@@ -12,7 +12,8 @@ ghost use Rattle.evc_def.specs.Blocks.{badPicture};
 ghost use Rattle.evc_def.specs.Codes.{firstOf, blockChecks};
 ghost use Rattle.evc_clip.specs.Clip.{clippedPlace};
 ghost use Rattle.evc_interp.specs.Code.{Readable, sampleFrom};
-ghost use Rattle.evc_mc.specs.Block.{refPicList, Component, withSamples, listSample, firstSample, isBi, average, predLen, planesShort, listShort, pocExceeds, listExceeds, mc2Code, mc2First, mc2Second};
+ghost use Rattle.evc_mc.specs.Block.{refPicList, Component, withSamples, listSample, firstSample, isBi, average, predLen};
+ghost use Rattle.evc_mc.specs.Block.{planesShort, listShort, pocExceeds, listExceeds, mc2Code, mc2First, mc2Second};
 ghost use Rattle.evc_mc.specs.Steps.{either, ListExamined, withList, blockSample, RowSmall, BlockSmall};
 use evc_def::EvcBlock;
 use evc_def::EvcMv;
@@ -153,7 +154,8 @@ fn predict_picked(
     second: bool,
 )
     requires { ⌜ Readable t p w h (now plane) × (h * w ≤ length (either second (now part0) (now part1))) ⌝ }
-    ensures { λ _. ⌜ either second (now (part0 .exit)) (now (part1 .exit)) ≡ withBlock (either second (now (part0 .entry)) (now (part1 .entry))) 0 w w h (sampleFrom t p (now (plane .entry))) ⌝ }
+    ensures { λ _. ⌜ either second (now (part0 .exit)) (now (part1 .exit))
+        ≡ withBlock (either second (now (part0 .entry)) (now (part1 .entry))) 0 w w h (sampleFrom t p (now (plane .entry))) ⌝ }
 {
     let pred = pick(part0, part1, second);
     evc_interp::predict(
@@ -280,7 +282,9 @@ fn average_plane(pred0: &mut [u16], pred1: &[u16], offset: usize, n: usize)
 fn average_block(b: EvcBlock, pred0: &mut [u16], pred1: &[u16])
     requires { ⌜ (firstOf (blockChecks b) ≡ 0) × (predLen ≤ length (now pred0)) × (predLen ≤ length (now pred1)) ⌝ }
     requires { ⌜ BlockSmall b (now pred0) × BlockSmall b (now pred1) ⌝ }
-    ensures { λ _. ⌜ now (pred0 .exit) ≡ withSamples b (λ (c : Component) (y x : ℕ). average (blockSample b (now (pred0 .entry)) c y x) (blockSample b (now (pred1 .entry)) c y x)) (now (pred0 .entry)) ⌝ }
+    ensures { λ _. ⌜ now (pred0 .exit) ≡ withSamples b
+        (λ (c : Component) (y x : ℕ). average (blockSample b (now (pred0 .entry)) c y x) (blockSample b (now (pred1 .entry)) c y x))
+        (now (pred0 .entry)) ⌝ }
 {
     let w = b.w as usize;
     let h = b.h as usize;
@@ -318,8 +322,13 @@ fn predict_lists(
 )
     requires { ⌜ (gmv0 ≡ clippedPlace b (list0 .mv)) × (gmv1 ≡ clippedPlace b (list1 .mv)) ⌝ }
     requires { ⌜ mc2Code b (refPicList list0 (now y0) (now u0) (now v0)) (refPicList list1 (now y1) (now u1) (now v1)) (now pred0) (now pred1) ≡ 0 ⌝ }
-    ensures { λ _. ⌜ now (pred0 .exit) ≡ withSamples b (firstSample b (refPicList list0 (now (y0 .entry)) (now (u0 .entry)) (now (v0 .entry))) (refPicList list1 (now (y1 .entry)) (now (u1 .entry)) (now (v1 .entry)))) (now (pred0 .entry)) ⌝ }
-    ensures { λ _. ⌜ now (pred1 .exit) ≡ cond (isBi b list0 list1) (withSamples b (listSample b (refPicList list1 (now (y1 .entry)) (now (u1 .entry)) (now (v1 .entry)))) (now (pred1 .entry))) (now (pred1 .entry)) ⌝ }
+    ensures { λ _. ⌜ (
+        let l0 = refPicList list0 (now (y0 .entry)) (now (u0 .entry)) (now (v0 .entry)) in
+        let l1 = refPicList list1 (now (y1 .entry)) (now (u1 .entry)) (now (v1 .entry)) in
+        now (pred0 .exit) ≡ withSamples b (firstSample b l0 l1) (now (pred0 .entry))) ⌝ }
+    ensures { λ _. ⌜ (
+        let l1 = refPicList list1 (now (y1 .entry)) (now (u1 .entry)) (now (v1 .entry)) in
+        now (pred1 .exit) ≡ cond (isBi b list0 list1) (withSamples b (listSample b l1) (now (pred1 .entry))) (now (pred1 .entry))) ⌝ }
 {
     let both = list0.used & list1.used;
     predict_list(b, list0, gmv0, &*y0, &*u0, &*v0, pred0, pred1, false);
