@@ -10,6 +10,7 @@ ghost use Rattle.evc_trace.specs.Bytes.{bytesOf, numberAt, overwritten};
 ghost use Rattle.evc_trace.specs.Code.{written};
 ghost use Rattle.evc_trace.specs.Format.{version, countLen, headerLen, mark, headerBytes, isTrace, headerOf, writeHeaderCode, writeHeaderAfter};
 ghost use Rattle.evc_trace.specs.Format.{recordLen, mvOf, mvBytes, recordBytes, recordOf, isZeroMv, isWellFormed, writeRecordCode, writeRecordAfter};
+ghost use Rattle.evc_trace.specs.declared.TraceHeader.{TraceHeader};
 use evc_def::EvcMv;
 
 pub const HEADER_LEN: usize = 13;
@@ -190,9 +191,9 @@ fn put_mark(out: &mut [u8])
 
 fn put_header(pic_w: u16, pic_h: u16, poc: u16, list_poc0: u16, out: &mut [u8])
     requires { ⌜ headerLen countLen ≤ length (now out) ⌝ }
-    ensures { λ _. ⌜ now (out .exit) ≡ overwritten
-        (headerBytes version countLen (record { «pic_w» = «pic_w»; «pic_h» = «pic_h»; poc = poc; «list_poc0» = «list_poc0» }))
-        (now (out .entry)) ⌝ }
+    ensures { λ _. ⌜ (
+        let h : TraceHeader = record { «pic_w» = «pic_w»; «pic_h» = «pic_h»; poc = poc; «list_poc0» = «list_poc0» } in
+        now (out .exit) ≡ overwritten (headerBytes version countLen h) (now (out .entry))) ⌝ }
 {
     put_mark(out);
     put_pair(out, 5, pic_w, pic_h);
