@@ -5,6 +5,7 @@ ghost use lib.ListN.{length, getD, take, drop};
 ghost use Rattle.evc_int.specs.Lists.{withBlock};
 ghost use Rattle.evc_def.specs.Codes.{firstOf, blockChecks};
 ghost use Rattle.evc_plane.specs.Planes.{sideOf, strideOf, planeLen};
+ghost use Rattle.evc_util.specs.Direct.{getMvDir};
 ghost use Rattle.evc_filter.specs.Code.{isRowWidth};
 ghost use Rattle.evc_mc.specs.Block.{luma, cb, cr, refPicList, predLen, mc2Code, withSamples, firstSample};
 ghost use Rattle.evc_mc.specs.Steps.{blockSample};
@@ -98,11 +99,26 @@ fn pocs_of(h: TraceHeader, r: EvcTraceRecord) -> Pocs
     }
 }
 
+// The direct call from its two parts: a second caller of it would keep it from being built into the exported one.
+fn direct(b: EvcBlock, p: Pocs, has_col: bool, col_mv: &[i16]) -> EvcDirect
+    ensures { λ m. ⌜ m ≡ getMvDir b p «has_col» (now («col_mv» .entry)) ⌝ }
+{
+    let code = evc_util::direct_code(b, p, has_col, col_mv.len());
+    if code != 0 {
+        return EvcDirect {
+            code,
+            mv0: EvcMv { x: 0, y: 0 },
+            mv1: EvcMv { x: 0, y: 0 },
+        };
+    }
+    evc_util::direct_mv(b, p, has_col, col_mv)
+}
+
 fn motion(h: TraceHeader, r: EvcTraceRecord, has_col: bool, col_mv: &[i16]) -> EvcDirect
     ensures { λ m. ⌜ m ≡ motionOf h «has_col» (now («col_mv» .entry)) r ⌝ }
 {
     if r.kind == 3 {
-        return evc_util::evc_get_mv_dir(block_of(h, r), pocs_of(h, r), has_col, col_mv);
+        return direct(block_of(h, r), pocs_of(h, r), has_col, col_mv);
     }
     let mv0 = r.mv0;
     let mv1 = r.mv1;

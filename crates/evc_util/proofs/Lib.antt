@@ -3,3 +3,4 @@ pub mod Around
 pub mod Flags
 pub mod Reach
 pub mod Laws
+pub mod Direct

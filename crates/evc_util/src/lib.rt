@@ -11,7 +11,7 @@ ghost use Rattle.evc_def.specs.Codes.{firstOf};
 ghost use Rattle.evc_def.specs.Tables.{isCoded, isIntra};
 ghost use Rattle.evc_util.specs.Units.{unitsOf, unitCount, wScu, scup, scuh, Covers, mvLen, mvAt};
 ghost use Rattle.evc_util.specs.Candidates.{neighbour, flagOutside, mapsShort, motionChecks, candidates, getMotion};
-ghost use Rattle.evc_util.specs.Direct.{pocTooLarge, directChecks, scaledBy, directVectors, getMvDir};
+ghost use Rattle.evc_util.specs.Direct.{pocTooLarge, directChecks, collocated, scaledBy, directVectors, getMvDir};
 ghost use Rattle.evc_util.specs.Flags.{flag, availLeft, availRight, availUp, availInter, availChecks, getAvailInter};
 use evc_def::AVAIL_BIT_LE;
 use evc_def::AVAIL_BIT_UP;
@@ -451,7 +451,8 @@ fn direct_vectors(p: Pocs, mv: EvcMv) -> EvcDirect
     }
 }
 
-fn direct_code(b: EvcBlock, p: Pocs, has_col: bool, col_mv: usize) -> u32
+// The number of a direct call.
+pub fn direct_code(b: EvcBlock, p: Pocs, has_col: bool, col_mv: usize) -> u32
     ensures { λ r. ⌜ r ≡ firstOf (directChecks b p «has_col» «col_mv») ⌝ }
 {
     let code = evc_def::block_code(b);
@@ -467,6 +468,16 @@ fn direct_code(b: EvcBlock, p: Pocs, has_col: bool, col_mv: usize) -> u32
     0
 }
 
+// The vectors of one that is accepted.
+pub fn direct_mv(block: EvcBlock, pocs: Pocs, has_col: bool, col_mv: &[i16]) -> EvcDirect
+    requires { ⌜ firstOf (directChecks block pocs «has_col» (length (now «col_mv»))) ≡ 0 ⌝ }
+    ensures { λ r. ⌜ r ≡ directVectors pocs (collocated block «has_col» (now («col_mv» .entry))) ⌝ }
+{
+    let scup = block_scup(block);
+    let mv = collocated_mv(has_col, col_mv, scup, EvcMv { x: 0, y: 0 });
+    direct_vectors(pocs, mv)
+}
+
 pub fn evc_get_mv_dir(block: EvcBlock, pocs: Pocs, has_col: bool, col_mv: &[i16]) -> EvcDirect
     ensures { λ r. ⌜ r ≡ getMvDir block pocs «has_col» (now («col_mv» .entry)) ⌝ }
 {
@@ -478,9 +489,7 @@ pub fn evc_get_mv_dir(block: EvcBlock, pocs: Pocs, has_col: bool, col_mv: &[i16]
         mv1: EvcMv { x: 0, y: 0 },
     };
     if code == 0 {
-        let scup = block_scup(block);
-        let mv = collocated_mv(has_col, col_mv, scup, EvcMv { x: 0, y: 0 });
-        direct = direct_vectors(pocs, mv);
+        direct = direct_mv(block, pocs, has_col, col_mv);
     }
     direct
 }

@@ -16,9 +16,9 @@ use Rattle.evc_replay.proofs.motion.Statement.{statement}
 use Rattle.evc_replay.proofs.motion.Tie as tie
 
 module _ (h : TraceHeader) (has : Bool) (col : List ℤ) (r : EvcTraceRecord) where
-  direct : (b : EvcBlock) (p : Pocs) (m : EvcDirect) → r .kind ≡ 3 → b ≡ blockOf h r → p ≡ pocsOf h r → m ≡ getMvDir b p has col → m ≡ motionOf h has col r
+  of-kind-3 : (b : EvcBlock) (p : Pocs) (m : EvcDirect) → r .kind ≡ 3 → b ≡ blockOf h r → p ≡ pocsOf h r → m ≡ getMvDir b p has col → m ≡ motionOf h has col r
   unfolding motionOf
-  direct b p m k e f g = rw (eq-eqb (r .kind) 3 k) (g ∙ ap₂ (λ (b : EvcBlock) (p : Pocs). getMvDir b p has col) e f)
+  of-kind-3 b p m k e f g = rw (eq-eqb (r .kind) 3 k) (g ∙ ap₂ (λ (b : EvcBlock) (p : Pocs). getMvDir b p has col) e f)
 
   own : (r .kind ≡ 3 → ⊥) → record { code = 0; mv0 = r .mv0; mv1 = r .mv1 } ≡ motionOf h has col r
   unfolding motionOf
@@ -30,11 +30,11 @@ block-of-requires c κs = search needs
 pocs-of-requires : tie.Need-pocs-of-requires
 pocs-of-requires c κs = search needs
 
-evc-get-mv-dir-requires : tie.Need-evc-get-mv-dir-requires
-evc-get-mv-dir-requires c κs = search needs
+direct-requires : tie.Need-direct-requires
+direct-requires c κs = search needs
 
 returns : tie.Need-returns
-returns c = direct _ _ _ _ _ _ _ (c .before .before .before .if1 .taken) (c .before .before .block-of .ensures) (c .before .pocs-of .ensures) (c .evc-get-mv-dir .ensures)
+returns c = of-kind-3 _ _ _ _ _ _ _ (c .before .before .before .if1 .taken) (c .before .before .block-of .ensures) (c .before .pocs-of .ensures) (c .direct .ensures)
 
 returns-2 : tie.Need-returns-2
 returns-2 c = own _ _ _ _ (c .before .before .if1 .left)
@@ -42,4 +42,4 @@ returns-2 c = own _ _ _ _ (c .before .before .if1 .left)
 pub motion-spec : {M : Type 1} → statement M
 motion-spec =
     tie.close
-    (tie.spec block-of-requires pocs-of-requires evc-get-mv-dir-requires returns returns-2)
+    (tie.spec block-of-requires pocs-of-requires direct-requires returns returns-2)

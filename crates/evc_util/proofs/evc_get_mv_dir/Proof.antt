@@ -1,82 +1,18 @@
 -- `evc_util::evc_get_mv_dir` meets its contract. Assumes nothing.
-use mathlib.Core.Bool.{Bool, true, false, _||_}
-use mathlib.Core.List.{List}
-use mathlib.Core.Path.{_≡_, sym, ap, _∙_}
-use Prim.Native.Nat.{ℕ, _+_, _*_, _≤_, _<_}
-use native.Mathlib.Omega.{arith}
+use mathlib.Core.Path.{sym, _∙_}
 use borrow.Author.Needs.{needs}
-use borrow.Author.Tests.{ne-eqb, ltb-false}
-use lib.Dec.{ltb}
-use lib.IntN.{ℤ}
-use lib.ListN.{length}
-use Rattle.evc_def.specs.Blocks.{Allowed}
-use Rattle.evc_def.specs.Codes.{firstOf, blockChecks, zeroMv}
-use Rattle.evc_def.specs.declared.EvcBlock.{EvcBlock}
-use Rattle.evc_def.proofs.Codes.{accepted, both-accepted}
-use Rattle.evc_def.proofs.Blocks.{allowed-block}
-use Rattle.evc_util.specs.Units.{unitCount, mvLen}
-use Rattle.evc_def.specs.Blocks.{maxPoc}
-use Rattle.evc_util.specs.Direct.{pocTooLarge, directChecks, collocated, directVectors, getMvDir}
-use Rattle.evc_util.specs.declared.EvcDirect.{EvcDirect}
-use Rattle.evc_util.specs.declared.Pocs.{Pocs}
-use Rattle.evc_int.proofs.Bools.{none-true, and-false-right}
+use Rattle.evc_util.proofs.Direct.{refusal, done}
 use Rattle.evc_util.proofs.evc_get_mv_dir.Statement.{statement}
 use Rattle.evc_util.proofs.evc_get_mv_dir.Tie as tie
 
-counts : (p : Pocs) → pocTooLarge p ≡ false → (p .poc ≤ 32767) × (p .poc0 ≤ 32767) × (p .poc1 ≤ 32767) × (p .«list_poc0» ≤ 32767)
-unfolding pocTooLarge
-counts p e =
-    let f = none-true (ltb maxPoc (p .poc) || ltb maxPoc (p .poc0) || ltb maxPoc (p .poc1)) (ltb maxPoc (p .«list_poc0»)) e in
-    let g = none-true (ltb maxPoc (p .poc) || ltb maxPoc (p .poc0)) (ltb maxPoc (p .poc1)) (f .0) in
-    let h = none-true (ltb maxPoc (p .poc)) (ltb maxPoc (p .poc0)) (g .0) in
-    (ltb-false _ _ (h .0), ltb-false _ _ (h .1), ltb-false _ _ (g .1), ltb-false _ _ (f .1))
-
-module _ (b : EvcBlock) (p : Pocs) (has : Bool) (col : List ℤ) where
-  refusal : (code : ℕ) → code ≡ firstOf (directChecks b p has (length col)) → (code ≡ 0 → ⊥) → record { code = code; mv0 = zeroMv; mv1 = zeroMv } ≡ getMvDir b p has col
-  unfolding getMvDir
-  refusal code e n = rw (sym e, ne-eqb code 0 n)
-
-  done : (r : EvcDirect) → firstOf (directChecks b p has (length col)) ≡ 0 → r ≡ directVectors p (collocated b has col) → r ≡ getMvDir b p has col
-  unfolding getMvDir
-  done r e q = rw e q
-
-  module _ (e : firstOf (directChecks b p has (length col)) ≡ 0) where
-    block-good : Allowed (b .«pic_w») (b .x) (b .w) × Allowed (b .«pic_h») (b .y) (b .h)
-    block-good = allowed-block b (both-accepted 0 (blockChecks b) _ tt e .0)
-
-    map-good : (n : ℕ) → n < unitCount b → has ≡ true → mvLen * n + mvLen ≤ length col
-    map-good n l t =
-        let f = accepted 4 _ _ (omega arith) (both-accepted 0 (blockChecks b) _ tt e .1) .0 in
-        let k = ltb-false (length col) (mvLen * unitCount b) (and-false-right has (ltb (length col) (mvLen * unitCount b)) f t) in
-        omega arith
-
-    counts-good : (p .poc ≤ 32767) × (p .poc0 ≤ 32767) × (p .poc1 ≤ 32767) × (p .«list_poc0» ≤ 32767)
-    counts-good = counts p (accepted 5 _ _ (omega arith) (accepted 4 _ _ (omega arith) (both-accepted 0 (blockChecks b) _ tt e .1) .1) .0)
-
-accepted-call : (c : tie.Then1) → let a = c .before .before .args in firstOf (directChecks (a .block) (a .pocs) (a .has-col) (length (a .col-mv .now))) ≡ 0
-accepted-call c = sym (c .before .direct-code .ensures) ∙ c .if1 .taken
-
-block-scup-requires : tie.Need-block-scup-requires
-block-scup-requires c κs =
-    let a = c .before .before .args in
-    block-good (a .block) (a .pocs) (a .has-col) (a .col-mv .now) (accepted-call c)
-
-collocated-mv-requires : tie.Need-collocated-mv-requires
-collocated-mv-requires c κs =
-    let a = c .before .before .before .args in
-    map-good (a .block) (a .pocs) (a .has-col) (a .col-mv .now) (accepted-call (c .before)) _ (c .block-scup .ensures .1)
-
-direct-vectors-requires : tie.Need-direct-vectors-requires
-direct-vectors-requires c κs =
-    let a = c .before .before .before .before .args in
-    counts-good (a .block) (a .pocs) (a .has-col) (a .col-mv .now) (accepted-call (c .before .before))
+direct-mv-requires : tie.Need-direct-mv-requires
+direct-mv-requires c κs = sym (c .before .direct-code .ensures) ∙ c .if1 .taken
 
 returns : tie.Need-returns
 returns c =
-    let m = c .before in
-    let a = m .before .before .before .before .args in
-    done (a .block) (a .pocs) (a .has-col) (a .col-mv .now) _ (accepted-call (m .before .before))
-    (c .direct-vectors .ensures ∙ ap (directVectors (a .pocs)) (m .collocated-mv .ensures ∙ rw (m .before .block-scup .ensures .0)))
+    let t = c .before in
+    let a = t .before .before .args in
+    done (a .block) (a .pocs) (a .has-col) (a .col-mv .now) _ (sym (t .before .direct-code .ensures) ∙ t .if1 .taken) (c .direct-mv .ensures)
 
 returns-2 : tie.Need-returns-2
 returns-2 c =
@@ -84,6 +20,4 @@ returns-2 c =
     refusal (a .block) (a .pocs) (a .has-col) (a .col-mv .now) _ (c .before .direct-code .ensures) (c .if1 .left)
 
 pub evc-get-mv-dir-spec : {M : Type 1} → statement M
-evc-get-mv-dir-spec =
-    tie.close
-    (tie.spec (λ c κs. search needs) block-scup-requires collocated-mv-requires direct-vectors-requires returns returns-2)
+evc-get-mv-dir-spec = tie.close (tie.spec (λ c κs. search needs) direct-mv-requires returns returns-2)
