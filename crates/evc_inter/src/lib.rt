@@ -8,9 +8,11 @@ ghost use Rattle.evc_plane.specs.Padding.{padCode, padAfter};
 ghost use Rattle.evc_interp.specs.Prediction.{mcPlaneCode, mcPlaneAfter};
 ghost use Rattle.evc_mc.specs.Block.{refPicList, mc2Code, mc2First, mc2Second};
 ghost use Rattle.evc_inter.specs.Kinds.{planeType};
+ghost use Rattle.evc_camera.specs.Camera.{cameraMotion};
 ghost use Rattle.evc_trace.specs.Format.{writeHeaderCode, writeHeaderAfter, writeRecordCode, writeRecordAfter};
 ghost use Rattle.evc_replay.specs.Record.{planes};
 ghost use Rattle.evc_replay.specs.Replay.{replayed};
+use evc_camera::EvcCamera;
 use evc_clip::EvcClipped;
 use evc_def::EvcBlock;
 use evc_def::EvcMv;
@@ -207,4 +209,17 @@ pub extern "C" fn evc_trace_replay(
         record { answer = r; target = planes (now (y .exit)) (now (u .exit)) (now (v .exit)) } ≡ replayed (now (trace .entry)) ref0 ref1 «has_col» (now («col_mv» .entry)) target) ⌝ }
 {
     evc_replay::evc_trace_replay(trace, y0, u0, v0, y1, u1, v1, has_col, col_mv, y, u, v)
+}
+
+// The movement of a picture's camera, by its motion map and unit words.
+#[no_mangle]
+pub extern "C" fn evc_camera_motion(
+    pic_w: u32,
+    pic_h: u32,
+    map_mv: &[i16],
+    map_scu: &[u32],
+) -> EvcCamera
+    ensures { λ r. ⌜ r ≡ cameraMotion «pic_w» «pic_h» (now («map_mv» .entry)) (now («map_scu» .entry)) ⌝ }
+{
+    evc_camera::evc_camera_motion(pic_w, pic_h, map_mv, map_scu)
 }

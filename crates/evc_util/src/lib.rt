@@ -159,7 +159,7 @@ fn avail_inter(b: EvcBlock, map_scu: &[u32]) -> u16
     left + avail_up(b, map_scu, first) + right
 }
 
-fn unit_count(pic_w: u32, pic_h: u32) -> usize
+pub fn unit_count(pic_w: u32, pic_h: u32) -> usize
     requires { ⌜ («pic_w» ≤ 8128) × («pic_h» ≤ 8128) ⌝ }
     ensures { λ r. ⌜ (r ≡ unitsOf «pic_w» «pic_h») × (r ≤ 4129024) ⌝ }
 {
@@ -205,7 +205,7 @@ fn map_mv_at(map_mv: &[i16], scup: usize, lidx: usize, d: usize) -> i16
     map_mv[MAP_MV_LEN * scup + 2 * lidx + d]
 }
 
-fn mv_at(map_mv: &[i16], scup: usize, lidx: usize) -> EvcMv
+pub fn mv_at(map_mv: &[i16], scup: usize, lidx: usize) -> EvcMv
     requires { ⌜ (lidx ≤ 1) × (mvLen * scup + mvLen ≤ length (now «map_mv»)) ⌝ }
     ensures { λ r. ⌜ r ≡ mvAt (now («map_mv» .entry)) scup lidx ⌝ }
 {

@@ -17,7 +17,7 @@ type Record = [u8; 48];
 // The block begins every record: W, H, x, y, w, h. Then the number that the call returns.
 const CODE: usize = 6;
 
-fn wide(b: u8) -> u32
+pub fn wide(b: u8) -> u32
     ensures { λ r. ⌜ r < 256 ⌝ }
 {
     b as u32
@@ -31,11 +31,16 @@ fn number(r: &Record, k: usize) -> u32
 }
 
 // The numbers from 65,280 on stand for those just below 2^32, so that two bytes reach both ends of a u32.
+pub fn both_ends(n: u32) -> u32
+    requires { ⌜ n < 65536 ⌝ }
+{
+    if n < 0xff00 { n } else { n + 0xffff0000 }
+}
+
 fn number32(r: &Record, k: usize) -> u32
     requires { ⌜ k < 24 ⌝ }
 {
-    let n = number(r, k);
-    if n < 0xff00 { n } else { n + 0xffff0000 }
+    both_ends(number(r, k))
 }
 
 fn signed(r: &Record, k: usize) -> i16
@@ -91,7 +96,7 @@ const WORDS: [u32; 8] = [
     0xffffffff,
 ];
 
-fn word_of(state: u8) -> u32 {
+pub fn word_of(state: u8) -> u32 {
     WORDS[(state % 8) as usize]
 }
 

@@ -5,6 +5,7 @@
 
 mod block;
 mod border;
+mod camera;
 mod cases;
 mod growth;
 mod limit;
@@ -56,6 +57,7 @@ fn main() {
     border::run(&mut report);
     vectors::run(&mut report);
     replay::run(&mut report);
+    camera::run(&mut report);
     growth::run(&mut report);
     room::run(&mut report);
     report.targets();

@@ -129,3 +129,10 @@ pub fn replay(trace: &[u8], planes: [[&[u16]; 3]; 2], col: &[i16], target: [&mut
     };
     (r.code, r.index)
 }
+
+/// The number returned, the kind, and the mean across and down.
+pub fn camera_motion([pic_w, pic_h]: [u32; 2], map: &[i16], words: &[u32]) -> (u32, u32, [f64; 2]) {
+    let (at, len) = (map.as_ptr(), map.len());
+    let r = unsafe { evc_camera_motion(pic_w, pic_h, at, len, words.as_ptr(), words.len()) };
+    (r.code, r.kind, [r.x, r.y])
+}

@@ -1,6 +1,6 @@
 //! Replay of a trace: `evc_trace_replay` against its own calls one by one, their blocks copied into the target.
 
-use crate::cases::{mv, picture, samples, Numbers, PATHS, PREDICTED};
+use crate::cases::{mv, picture, samples, squares, Numbers, PATHS, PREDICTED};
 use crate::measure::least;
 use crate::ours::{self, List};
 use crate::report::{Report, REPLAY};
@@ -21,41 +21,6 @@ const KINDS: [&str; 4] = ["list 0", "list 1", "both lists", "direct"];
 /// With these the direct vectors are half of the collocated vector, and its opposite.
 const POC: u32 = 12;
 const LIST_POC0: u32 = 8;
-
-/// Squares that cover a picture, none wider than `most`, where they fit; if mixed, two in three are split
-/// further.
-fn squares(pic: [u32; 2], most: u32, is_mixed: bool) -> Vec<Block> {
-    fn split(b: Block, most: u32, is_mixed: bool, numbers: &mut Numbers, all: &mut Vec<Block>) {
-        let side = b.side[0];
-        if (0..2).any(|d| b.place[d] >= b.pic[d]) {
-            return;
-        }
-        let fits = side <= most && (0..2).all(|d| b.place[d] + side <= b.pic[d]);
-        if fits && !(is_mixed && side > 4 && numbers.below(3) > 0) {
-            return all.push(b);
-        }
-        for k in 0..4 {
-            let half = side / 2;
-            let place = [b.place[0] + k % 2 * half, b.place[1] + k / 2 * half];
-            let side = [half; 2];
-            split(Block { place, side, ..b }, most, is_mixed, numbers, all);
-        }
-    }
-    let mut all = Vec::new();
-    let mut numbers = Numbers::new(21);
-    for (y, x) in (0..pic[1])
-        .step_by(64)
-        .flat_map(|y| (0..pic[0]).step_by(64).map(move |x| (y, x)))
-    {
-        let b = Block {
-            pic,
-            place: [x, y],
-            side: [64; 2],
-        };
-        split(b, most, is_mixed, &mut numbers, &mut all);
-    }
-    all
-}
 
 /// Records for these blocks, of one kind or of all; vectors of up to eight samples each way, by every path.
 fn records(blocks: &[Block], kind: Option<u8>) -> Vec<Record> {
@@ -226,7 +191,8 @@ pub fn run(report: &mut Report) {
         if !report.wants(&what) {
             continue;
         }
-        let blocks = squares(PIC, side.unwrap_or(64), side.is_none());
+        let numbers = &mut Numbers::new(21);
+        let blocks = squares(PIC, side.unwrap_or(64), side.is_none(), numbers);
         let replayed = Replayed::new(PIC, &blocks, kind);
         replayed.compare(&what);
         let [alone, copied, replay] = replayed.times(report.rounds);
@@ -263,7 +229,8 @@ pub fn room() -> Room {
     let mut room = Room::default();
     for side in [4, 8, 16, 32, 64] {
         for kind in 0..4 {
-            let replayed = Replayed::new(pic, &squares(pic, side, false), Some(kind));
+            let blocks = squares(pic, side, false, &mut Numbers::new(21));
+            let replayed = Replayed::new(pic, &blocks, Some(kind));
             let mut target = replayed.target();
             let mut answer = (9, 0);
             room.of(&mut || answer = replayed.replay(&mut target));

@@ -22,11 +22,12 @@ pub const WHOLE: Target = target("whole samples", 1.5);
 pub const BORDER: Target = target("border alone", 1.0);
 pub const VECTORS: Target = target("flags, candidates, direct vectors, clipping", 1.5);
 pub const REPLAY: Target = target("replay, to its calls and copies", 1.05);
+pub const CAMERA: Target = target("camera movement, to the plainest loop", 1.0);
 pub const LIMIT_LUMA: Target = target("luma, to the limit", 1.3);
 pub const LIMIT_CHROMA: Target = target("chroma, to the limit", 1.3);
 pub const LIMIT_BLOCK: Target = target("block, to the limit", 1.3);
 
-const TARGETS: [&Target; 15] = [
+const TARGETS: [&Target; 16] = [
     &ONE_LUMA,
     &ONE_CHROMA,
     &TWO_LUMA,
@@ -39,6 +40,7 @@ const TARGETS: [&Target; 15] = [
     &BORDER,
     &VECTORS,
     &REPLAY,
+    &CAMERA,
     &LIMIT_LUMA,
     &LIMIT_CHROMA,
     &LIMIT_BLOCK,

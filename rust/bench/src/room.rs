@@ -3,7 +3,7 @@
 use crate::block::{lent, Pictures};
 use crate::cases::{blocks, on_plane, plane, PATHS, SIDES};
 use crate::report::Report;
-use crate::{ours, replay};
+use crate::{camera, ours, replay};
 use std::alloc::{GlobalAlloc, Layout, System};
 use std::arch::asm;
 use std::sync::atomic::{AtomicUsize, Ordering::Relaxed};
@@ -125,12 +125,13 @@ fn pad() -> Room {
 
 pub fn run(report: &mut Report) {
     let mut rows = Vec::new();
-    let calls: [(&str, fn() -> Room); 5] = [
+    let calls: [(&str, fn() -> Room); 6] = [
         ("no call, for comparison", nothing),
         ("evc_mc_plane", mc_plane),
         ("evc_mc2", mc2),
         ("evc_pad", pad),
         ("evc_trace_replay", replay::room),
+        ("evc_camera_motion", camera::room),
     ];
     for (name, call) in calls {
         if report.wants(&format!("room {name}")) {

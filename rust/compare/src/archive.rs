@@ -1,5 +1,6 @@
 //! The calls of the archive, as include/evc_inter.h has them.
 
+use oracle::model::camera::Camera;
 use oracle::model::trace::{Lent, Record, Replay};
 use oracle::model::{Block, Collocated, List, Mv, OnePlane, Pocs};
 
@@ -63,6 +64,14 @@ struct EvcTraceRecord {
 struct EvcReplay {
     code: u32,
     index: u64,
+}
+
+#[repr(C)]
+struct EvcCamera {
+    code: u32,
+    kind: u32,
+    x: f64,
+    y: f64,
 }
 
 /// left, up, up_right, collocated
@@ -172,6 +181,14 @@ extern "C" {
         v: *mut u16,
         v_len: usize,
     ) -> EvcReplay;
+    fn evc_camera_motion(
+        pic_w: u32,
+        pic_h: u32,
+        map_mv: *const i16,
+        map_mv_len: usize,
+        map_scu: *const u32,
+        map_scu_len: usize,
+    ) -> EvcCamera;
 }
 
 /// Whoever is compared: the archive, or a faulty one in a test.
@@ -194,6 +211,7 @@ pub trait Calls {
     fn write_header(&self, pic: [u32; 2], poc: u16, list_poc0: u16, out: &mut [u8]) -> u32;
     fn write_record(&self, pic: [u32; 2], record: &Record, out: &mut [u8]) -> u32;
     fn replay(&self, lent: Lent, target: [&mut [u16]; 3]) -> Replay;
+    fn camera_motion(&self, pic: [u32; 2], map: &[i16], words: &[u32]) -> Camera;
 }
 
 pub struct Archive;
@@ -414,5 +432,16 @@ impl Calls for Archive {
             )
         };
         Replay { code, index }
+    }
+
+    fn camera_motion(&self, [pic_w, pic_h]: [u32; 2], map: &[i16], words: &[u32]) -> Camera {
+        let (map_mv, len) = (pointer(map), map.len());
+        let (map_scu, words_len) = (pointer(words), words.len());
+        let r = unsafe { evc_camera_motion(pic_w, pic_h, map_mv, len, map_scu, words_len) };
+        Camera {
+            code: r.code,
+            kind: r.kind,
+            mean: [r.x, r.y].map(f64::to_bits),
+        }
     }
 }

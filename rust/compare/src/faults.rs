@@ -2,6 +2,7 @@
 
 use crate::archive::{Archive, Calls, EvcCandidates};
 use crate::cases::block::Blocks;
+use crate::cases::camera::Cameras;
 use crate::cases::clipping::Clipping;
 use crate::cases::demand3::Demand3;
 use crate::cases::invisible::{Invisible, UpTo};
@@ -10,9 +11,11 @@ use crate::cases::padding::Padding;
 use crate::cases::replay::Replays;
 use crate::cases::trace::{Headers, Records};
 use crate::cases::units::{Directs, Flags, Motions};
-use crate::cases::Case;
-use crate::run::Run;
+use crate::cases::{Case, BATCH};
+use crate::lent::units;
+use crate::run::{self, Run};
 use crate::sys::{End, ALARM};
+use oracle::model::camera::{is_counted, Camera, MOVING, STILL};
 use oracle::model::trace::{self, Header, Record, Replay, HEADER_LEN, RECORD_LEN};
 use oracle::model::{self, Block, Collocated, List, Mv, OnePlane, Pocs, PRED_LEN};
 
@@ -85,6 +88,32 @@ enum Fault {
     NeedsNoPlane,
     /// Puts back a byte of the trace.
     WritesTrace,
+    /// The means in quarter samples.
+    InQuarters,
+    /// The means in single precision.
+    SinglePrecision,
+    /// The sums times a rounded fraction.
+    RoundsTwice,
+    /// The vectors of list 1.
+    OtherList,
+    /// A coded unit counts, intra or not.
+    CountsIntra,
+    /// A zero mean is -0.0.
+    MinusZero,
+    /// Still only if every vector is zero.
+    StillByEach,
+    /// Reads the number of the map behind the needed ones.
+    ReadsPast,
+    /// The unit behind the picture's counts, if it is lent.
+    CountsPast,
+    /// A refusal says still.
+    StillRefused,
+    /// 4 before 1.
+    Checks4First,
+    /// Puts back a word that was lent to be read.
+    WritesWords,
+    /// The sums in 32 bits.
+    Sums32,
 }
 
 use Fault::*;
@@ -289,6 +318,62 @@ impl Calls for Faulty {
         }
         answer
     }
+
+    fn camera_motion(&self, pic: [u32; 2], map: &[i16], words: &[u32]) -> Camera {
+        let mut answer = Archive.camera_motion(pic, map, words);
+        match (self.0, answer.code) {
+            (StillRefused, 1..) => answer.kind = STILL,
+            (Checks4First, 1) if words.is_empty() => answer.code = 4,
+            _ => (),
+        }
+        if answer.code != 0 {
+            return answer;
+        }
+        let needed = units(pic);
+        let counted: Vec<&[i16]> = (0..needed)
+            .filter(|unit| is_counted(words[*unit]))
+            .map(|unit| &map[4 * unit..4 * unit + 2])
+            .collect();
+        let sums = [0, 1].map(|d| counted.iter().map(|mv| i64::from(mv[d])).sum::<i64>());
+        let parts = (4 * counted.len()) as f64;
+        let means = answer.mean.map(f64::from_bits);
+        match self.0 {
+            InQuarters => answer.mean = means.map(|mean| (4.0 * mean).to_bits()),
+            SinglePrecision => answer.mean = means.map(|mean| f64::from(mean as f32).to_bits()),
+            RoundsTwice if answer.kind == MOVING => {
+                answer.mean = sums.map(|sum| (sum as f64 * (1.0 / parts)).to_bits());
+            }
+            OtherList => {
+                let mut map = map.to_vec();
+                map.chunks_exact_mut(4).for_each(|unit| unit.rotate_left(2));
+                answer = Archive.camera_motion(pic, &map, words);
+            }
+            CountsIntra => {
+                let words: Vec<u32> = words.iter().map(|word| word & !(1 << 15)).collect();
+                answer = Archive.camera_motion(pic, map, &words);
+            }
+            MinusZero if answer.kind == MOVING => {
+                answer.mean = means.map(|mean| if mean == 0.0 { -mean } else { mean }.to_bits());
+            }
+            StillByEach if counted.iter().any(|mv| *mv != [0, 0]) => answer.kind = MOVING,
+            // SAFETY: none, that is the fault.
+            ReadsPast => unsafe {
+                std::ptr::read_volatile(map.as_ptr().add(4 * needed));
+            },
+            CountsPast if words.len() > needed && map.len() >= 4 * needed + 4 => {
+                answer = Archive.camera_motion([4 * needed as u32 + 4, 4], map, words);
+            }
+            WritesWords => unsafe {
+                let first = words.as_ptr() as *mut u32;
+                std::ptr::write_volatile(first, *first);
+            },
+            Sums32 if answer.kind == MOVING => {
+                answer.mean = sums.map(|sum| (f64::from(sum as i32) / parts).to_bits());
+            }
+            _ => (),
+        }
+        answer
+    }
 }
 
 const BATCHES: u64 = 40;
@@ -338,6 +423,7 @@ fn no_fault() {
     assert_none::<Headers>();
     assert_none::<Records>();
     assert_none::<Replays>();
+    assert_none::<Cameras>();
 }
 
 /// The lines of a run that fails: `cargo test -p compare told -- --nocapture`.
@@ -461,6 +547,49 @@ fn of_replay() {
     );
     assert_noticed::<Replays>(NeedsNoPlane, DIFFERS, &[none]);
     assert_noticed::<Replays>(WritesTrace, CRASHES, &["records: []"]);
+}
+
+#[test]
+fn of_camera_motion() {
+    let one = "pic: [4, 4], map: Map { words: Words { pic: [4, 4], counted: All, spare: 0";
+    let zero = "like: Same([0, 0]), cancels: [false, false], one: None, decoys: false, spare: 0";
+    let quarter = "like: Same([0, 1]), cancels: [false, false], one: None, decoys: false, spare: 0";
+    assert_noticed::<Cameras>(InQuarters, DIFFERS, &[one, quarter]);
+    assert_noticed::<Cameras>(MinusZero, DIFFERS, &[one, quarter]);
+    // thirds are needed
+    let small = ["pic: [4, 12], map", "like: Within(1)"];
+    assert_noticed::<Cameras>(SinglePrecision, DIFFERS, &small);
+    assert_noticed::<Cameras>(RoundsTwice, DIFFERS, &["counted: All", "like: Within(1)"]);
+    let small = [
+        "pic: [4, 8], map",
+        "like: Same([0, 1]), cancels: [false, true]",
+    ];
+    assert_noticed::<Cameras>(StillByEach, DIFFERS, &small);
+    // not the model, but the law sees this one, when it overwrites list 1
+    assert_noticed::<Cameras>(OtherList, DIFFERS, &[one, zero]);
+    assert_noticed::<Cameras>(CountsIntra, DIFFERS, &["counted: Not", zero]);
+    assert_noticed::<Cameras>(ReadsPast, CRASHES, &[one, zero]);
+    assert_noticed::<Cameras>(WritesWords, CRASHES, &[one, zero]);
+    let small = ["pic: [4, 4], map", "counted: All, spare: 1", "spare: 4"];
+    assert_noticed::<Cameras>(CountsPast, DIFFERS, &small);
+    assert_noticed::<Cameras>(StillRefused, DIFFERS, &["pic: [0, 0], map", zero]);
+    assert_noticed::<Cameras>(Checks4First, DIFFERS, &["pic: [0, 0], map", zero]);
+}
+
+/// The first case of the largest picture has the largest sums.
+#[test]
+fn of_the_largest_sums() {
+    let number = (Cameras::LARGEST - 1) * BATCH as u64;
+    let case = run::case::<Cameras>(3, number).unwrap();
+    assert!(format!("{case:?}").contains("pic: [8128, 8128], map"));
+    for (fault, end) in [(NoFault, End::Code(0)), (Sums32, DIFFERS)] {
+        let run = Run {
+            calls: &Faulty(fault),
+            seed: 3,
+            time_limit: 120,
+        };
+        assert_eq!(run.one(&case, |_| ()), end);
+    }
 }
 
 #[test]

@@ -48,7 +48,7 @@ impl<C: Contents> Slot<C> {
     }
 }
 
-fn units(pic: [u32; 2]) -> usize {
+pub fn units(pic: [u32; 2]) -> usize {
     let b = Block {
         pic,
         place: [0; 2],

@@ -12,6 +12,7 @@ mod sys;
 
 use archive::{Archive, Calls};
 use cases::block::Blocks;
+use cases::camera::Cameras;
 use cases::clipping::Clipping;
 use cases::demand3::Demand3;
 use cases::invisible::Invisible;
@@ -124,7 +125,7 @@ fn told_end(end: End) -> &'static str {
 type Comparison = fn(&dyn Calls, &Options, f64) -> bool;
 
 /// Each call with its share of the time.
-const CALLS: [(&str, Comparison, f64); 12] = [
+const CALLS: [(&str, Comparison, f64); 13] = [
     (Padding::NAME, compare::<Padding>, 0.12),
     (Flags::NAME, compare::<Flags>, 0.08),
     (Motions::NAME, compare::<Motions>, 0.08),
@@ -137,6 +138,7 @@ const CALLS: [(&str, Comparison, f64); 12] = [
     (Headers::NAME, compare::<Headers>, 0.02),
     (Records::NAME, compare::<Records>, 0.03),
     (Replays::NAME, compare::<Replays>, 0.25),
+    (Cameras::NAME, compare::<Cameras>, 0.1),
 ];
 
 fn main() {

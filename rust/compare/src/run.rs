@@ -33,9 +33,6 @@ pub struct Failure<C> {
     pub smaller: C,
 }
 
-/// Every so many batches one with the largest picture, cut short.
-const LARGEST: u64 = 20_000;
-
 /// Cases of a batch follow from the seed, the call's name and the batch's number.
 fn batch<C: Case>(seed: u64, batch: u64) -> Vec<C> {
     let mut z = seed;
@@ -46,7 +43,7 @@ fn batch<C: Case>(seed: u64, batch: u64) -> Vec<C> {
         z ^= z >> 31;
     }
     let rng = &mut Rng(z | 1);
-    if batch % LARGEST == LARGEST - 1 {
+    if batch % C::LARGEST == C::LARGEST - 1 {
         let mut cases = C::batch([8128, 8128], rng);
         cases.truncate(4);
         return cases;

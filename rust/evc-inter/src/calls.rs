@@ -4,7 +4,8 @@
 //! crates/evc_inter say that a call reads and writes nothing but what is lent, and keeps none of it.
 
 use crate::ffi;
-use crate::{EvcBlock, EvcCandidates, EvcList, EvcMv, EvcTraceRecord, Refusal, Replay};
+use crate::{CameraMotion, EvcBlock, EvcCandidates, EvcList, EvcMv, EvcTraceRecord};
+use crate::{Refusal, Replay};
 
 /// The border step: fills the border of one plane in place. Refuses 1, 4, 6.
 ///
@@ -381,6 +382,47 @@ pub fn evc_trace_replay(
         )
     };
     Replay::new(returned, trace.len())
+}
+
+/// The camera movement of a picture, from its motion map and its unit words. Refuses 1, 4.
+///
+/// Over the units that are coded and not intra, the mean of their list 0 vectors, in luma samples: the
+/// exact whole sum, divided once by four times the number of these units. `map_mv` is laid out as for
+/// [`evc_get_motion`], `map_scu` as for [`evc_get_avail_inter`].
+///
+/// ```
+/// use evc_inter::{evc_camera_motion, CameraMotion, Refusal};
+///
+/// let words = [0x8000_0000; 2]; // coded, not intra
+/// let panned = [6, 0, 0, 0, 7, 0, 0, 0];
+/// let mean = CameraMotion::Moving { x: 1.625, y: 0.0 }; // 13 quarter samples over two units
+/// assert_eq!(evc_camera_motion(8, 4, &panned, &words)?, mean);
+///
+/// let apart = [4, 0, 0, 0, -4, 0, 0, 0]; // the sums decide, not each vector
+/// assert_eq!(evc_camera_motion(8, 4, &apart, &words)?, CameraMotion::Still);
+///
+/// let intra = [0x8000_8000; 2];
+/// assert_eq!(evc_camera_motion(8, 4, &panned, &intra)?, CameraMotion::None);
+/// assert_eq!(evc_camera_motion(8, 4, &panned[1..], &words), Err(Refusal::Buffer));
+/// # Ok::<(), Refusal>(())
+/// ```
+pub fn evc_camera_motion(
+    pic_w: u32,
+    pic_h: u32,
+    map_mv: &[i16],
+    map_scu: &[u32],
+) -> Result<CameraMotion, Refusal> {
+    let r = unsafe {
+        ffi::evc_camera_motion(
+            pic_w,
+            pic_h,
+            map_mv.as_ptr(),
+            map_mv.len(),
+            map_scu.as_ptr(),
+            map_scu.len(),
+        )
+    };
+    Refusal::check(r.code).map(|()| CameraMotion::new(r))
 }
 
 /// docs/INTEGRATION.md: -32767 may stand in for -32768, in pictures and places of any size.

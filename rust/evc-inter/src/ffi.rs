@@ -27,6 +27,14 @@ pub struct EvcReplay {
     pub index: u64,
 }
 
+#[repr(C)]
+pub struct EvcCamera {
+    pub code: u32,
+    pub kind: u32,
+    pub x: f64,
+    pub y: f64,
+}
+
 extern "C" {
     pub fn evc_pad(chroma: bool, pic_w: u32, pic_h: u32, plane: *mut u16, plane_len: usize) -> u32;
 
@@ -139,4 +147,13 @@ extern "C" {
         v: *mut u16,
         v_len: usize,
     ) -> EvcReplay;
+
+    pub fn evc_camera_motion(
+        pic_w: u32,
+        pic_h: u32,
+        map_mv: *const i16,
+        map_mv_len: usize,
+        map_scu: *const u32,
+        map_scu_len: usize,
+    ) -> EvcCamera;
 }

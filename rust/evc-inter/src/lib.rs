@@ -5,6 +5,7 @@
 //! as it was, but for the target of a replay. Sizes and places are in luma samples, vectors in
 //! quarter luma samples, samples are 10 bits. [`Plane`] and [`Picture`] make the buffers that the
 //! calls take. [`TraceWriter`] keeps a trace of what was predicted, and [`replay`] predicts it again.
+//! [`evc_camera_motion`] says whether a picture is still or moving, for the catalogue.
 //!
 //! ```
 //! use evc_inter::{cu_plane, evc_mc2, EvcBlock, EvcList, EvcMv, Picture, Refusal, CU_LEN};
@@ -30,6 +31,7 @@
 #![deny(missing_docs)]
 
 mod calls;
+mod camera;
 mod cu;
 #[doc(hidden)] // for the benchmark, which converts nothing
 pub mod ffi;
@@ -39,6 +41,7 @@ mod trace;
 mod types;
 
 pub use calls::*;
+pub use camera::*;
 pub use cu::*;
 pub use plane::*;
 pub use refusal::*;

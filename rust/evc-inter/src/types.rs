@@ -88,7 +88,7 @@ pub struct EvcTraceRecord {
 #[cfg(test)]
 mod layout {
     use super::*;
-    use crate::ffi::{EvcAvail, EvcClipped, EvcDirect, EvcReplay};
+    use crate::ffi::{EvcAvail, EvcCamera, EvcClipped, EvcDirect, EvcReplay};
     use std::mem::{align_of, offset_of, size_of};
 
     macro_rules! layout {
@@ -113,4 +113,5 @@ mod layout {
         x 0, y 2, w 4, h 6, kind 8, mv0 10, mv1 14, poc0 18, poc1 20
     );
     layout!(replay, EvcReplay, 16, 8, code 0, index 8);
+    layout!(camera, EvcCamera, 24, 8, code 0, kind 4, x 8, y 16);
 }

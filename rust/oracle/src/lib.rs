@@ -44,6 +44,7 @@ mod util {
     pub mod calls;
 }
 
+pub mod camera_lists;
 pub mod cases;
 pub mod mc2_lists;
 pub mod mc_lists;

@@ -1,6 +1,7 @@
 //! Every call as document 01 tells it, refusals included, and document 02's laws. Written from their sentences, which are quoted, and not from the Rust:
 //! samples and whole numbers, one unit or one sample at a time.
 
+pub mod camera;
 pub mod trace;
 
 pub type Mv = [i16; 2];

@@ -1,6 +1,7 @@
 //! The cases of each call, and how each is compared.
 
 pub mod block;
+pub mod camera;
 pub mod clipping;
 pub mod demand3;
 pub mod invisible;
@@ -25,6 +26,8 @@ pub type Outcome = Result<Seen, String>;
 
 pub trait Case: Clone + Debug {
     const NAME: &'static str;
+    /// Every so many batches one with the largest picture, cut short.
+    const LARGEST: u64 = 20_000;
     /// Buffers that are kept from case to case.
     type Lent: Default;
     /// Cases that share most of what is lent, made for this picture.

@@ -17,6 +17,7 @@ SIZE(EvcCandidates, 20, 2); AT(EvcCandidates, up, 4); AT(EvcCandidates, up_right
 SIZE(EvcTraceRecord, 22, 2); AT(EvcTraceRecord, x, 0); AT(EvcTraceRecord, y, 2); AT(EvcTraceRecord, w, 4); AT(EvcTraceRecord, h, 6); AT(EvcTraceRecord, kind, 8);
 AT(EvcTraceRecord, mv0, 10); AT(EvcTraceRecord, mv1, 14); AT(EvcTraceRecord, poc0, 18); AT(EvcTraceRecord, poc1, 20);
 SIZE(EvcReplay, 16, 8); AT(EvcReplay, code, 0); AT(EvcReplay, index, 8);
+SIZE(EvcCamera, 24, 8); AT(EvcCamera, code, 0); AT(EvcCamera, kind, 4); AT(EvcCamera, x, 8); AT(EvcCamera, y, 16);
 
 static int failed;
 #define HOLDS(what) ((what) ? (void)0 : (void)(failed = 1, printf("line %d: %s\n", __LINE__, #what)))
@@ -28,6 +29,17 @@ static uint16_t y[LUMA], u[CHROMA], v[CHROMA];
 
 static void grey(uint16_t *plane, size_t len, uint16_t sample) {
     for (size_t k = 0; k < len; k++) plane[k] = sample;
+}
+
+static uint64_t bits(double n) {
+    uint64_t b;
+    memcpy(&b, &n, sizeof b);
+    return b;
+}
+
+/* Numbers by their bits: -0.0 is not 0.0. */
+static bool reads(EvcCamera c, uint32_t code, uint32_t kind, double x, double y) {
+    return c.code == code && c.kind == kind && bits(c.x) == bits(x) && bits(c.y) == bits(y);
 }
 
 int main(void) {
@@ -117,6 +129,20 @@ int main(void) {
     HOLDS(y[79 * 176 + 80] == 9 && y[80 * 176 + 79] == 9 && y[88 * 176 + 87] == 9 && y[80 * 176 + 84] == 9); /* the border, and outside the blocks */
     r = REPLAY(58, LUMA, CHROMA);
     HOLDS(r.code == 11 && r.index == 2); /* a trace has no excess */
+
+    /* Camera movement of two units; list 1 is not in it. */
+    int16_t panned[8] = {6, 0, 1, 2, 7, 0, 3, 4}, apart[8] = {4, -9, 1, 2, -4, 9, 3, 4}, tilted[8] = {1, -1, 1, 2, -1, -2, 3, 4};
+    uint32_t intra[2] = {0x80008000u, 0x80008000u}, second[2] = {0x00000000u, 0xffff7fffu};
+    HOLDS(reads(evc_camera_motion(8, 4, panned, 8, words, 2), 0, 2, 1.625, 0.0));
+    HOLDS(reads(evc_camera_motion(8, 4, apart, 8, words, 2), 0, 1, 0.0, 0.0));
+    HOLDS(reads(evc_camera_motion(4, 8, tilted, 8, words, 2), 0, 2, 0.0, -0.375));
+    HOLDS(reads(evc_camera_motion(8, 4, panned, 8, intra, 2), 0, 0, 0.0, 0.0));
+    HOLDS(reads(evc_camera_motion(8, 4, panned, 8, second, 2), 0, 2, 1.75, 0.0)); /* the first is not coded */
+    HOLDS(reads(evc_camera_motion(8, 6, panned, 7, words, 1), 1, 0, 0.0, 0.0));
+    HOLDS(reads(evc_camera_motion(8, 4, panned, 7, words, 2), 4, 0, 0.0, 0.0));
+    HOLDS(reads(evc_camera_motion(8, 4, panned, 8, words, 1), 4, 0, 0.0, 0.0));
+    HOLDS(reads(evc_camera_motion(4, 4, panned, 8, words, 2), 0, 2, 1.5, 0.0)); /* longer buffers */
+    HOLDS(reads(evc_camera_motion(4, 4, NULL, 0, NULL, 0), 4, 0, 0.0, 0.0));
 
     puts(failed ? "the archive does not hold" : "the archive holds from C");
     return failed;

@@ -2,7 +2,7 @@
 
 use oracle::cases::{clip, corners, hash, Component, Padding, Rng};
 use oracle::plane_config;
-use oracle::{mc2_lists, mc_lists, replay_lists, util_lists};
+use oracle::{camera_lists, mc2_lists, mc_lists, replay_lists, util_lists};
 use std::fmt::Write;
 use std::path::Path;
 use std::{env, fs, io};
@@ -105,7 +105,7 @@ fn write_mv_clip(dir: &Path) -> io::Result<()> {
 }
 
 /// Lists that come with their answers.
-fn write_lists(dir: &Path, lists: [(&str, [Vec<u8>; 2]); 2]) -> io::Result<()> {
+fn write_lists<const N: usize>(dir: &Path, lists: [(&str, [Vec<u8>; 2]); N]) -> io::Result<()> {
     for (name, [records, answers]) in lists {
         fs::write(dir.join(format!("{name}.records")), records)?;
         fs::write(dir.join(format!("{name}.answers")), answers)?;
@@ -149,6 +149,11 @@ fn write_replay(dir: &Path) -> io::Result<()> {
     write_lists(dir, lists)
 }
 
+/// Calls for the camera movement: document 02's answers.
+fn write_camera(dir: &Path) -> io::Result<()> {
+    write_lists(dir, [("camera", camera_lists::camera())])
+}
+
 fn main() -> io::Result<()> {
     let dir = env::args_os().nth(1).expect("usage: lists DIR");
     let dir = Path::new(&dir);
@@ -158,5 +163,6 @@ fn main() -> io::Result<()> {
     write_util(dir)?;
     write_mc_plane(dir)?;
     write_mc2(dir)?;
-    write_replay(dir)
+    write_replay(dir)?;
+    write_camera(dir)
 }

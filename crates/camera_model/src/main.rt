@@ -1,0 +1,3 @@
+fn main() {
+    camera_text::run();
+}

@@ -1,0 +1,22 @@
+-- `camera_text::read_first` meets its contract: what is lent lies within the buffer. Assumes nothing.
+use mathlib.Core.Path.{sym}
+use borrow.Author.Needs.{needs}
+use lib.Seq.{length-take-le}
+use Rattle.camera_text.proofs.read_first.Statement.{statement}
+use Rattle.camera_text.proofs.read_first.Tie as tie
+
+within : tie.Need-slice-relend-prefix-read-full
+within c = search needs
+
+prefix-long : tie.Need-slice-aggregate-read-full
+prefix-long c = sym (length-take-le _ _ (within (c .before)))
+
+pub read-first-spec : {M : Type 1} → statement M
+read-first-spec =
+    tie.close
+    (tie.spec
+    within
+    prefix-long
+    (λ c κs. search needs)
+    (λ c. search needs)
+    (λ c. search needs))

@@ -1,0 +1,16 @@
+-- `evc_camera::answer` meets its contract. Assumes nothing.
+use borrow.Author.Needs.{needs}
+use Rattle.evc_camera.proofs.answer.Statement.{statement}
+use Rattle.evc_camera.proofs.answer.Tie as tie
+
+returns : tie.Need-returns
+returns c = cc
+
+returns-2 : tie.Need-returns-2
+returns-2 c = cc
+
+returns-3 : tie.Need-returns-3
+returns-3 c = cc
+
+pub answer-spec : {M : Type 1} → statement M
+answer-spec = tie.close (tie.spec (λ c. search needs) (λ c. search needs) (λ c. search needs) returns returns-2 returns-3)

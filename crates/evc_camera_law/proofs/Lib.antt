@@ -1,0 +1,3 @@
+pub mod Means
+pub mod Vectors
+pub mod CameraLaws
