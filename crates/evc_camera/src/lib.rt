@@ -1,11 +1,11 @@
 ghost use mathlib.Core.Path.{_≡_};
-ghost use mathlib.Core.Bool.{cond, true, _||_};
-ghost use Prim.Native.Nat.{ℕ, _+_, _*_, _<_, _≤_};
+ghost use mathlib.Core.Bool.{cond, true};
+ghost use Prim.Native.Nat.{_+_, _*_, _<_, _≤_};
 ghost use lib.ListN.{length};
 ghost use lib.IntN.{pos, natAbs, _+ℤ_};
 ghost use Rattle.evc_def.specs.Codes.{firstOf};
 ghost use Rattle.evc_util.specs.Units.{mvLen};
-ghost use Rattle.evc_camera.specs.Camera.{isCounted, withMv, sumsOf, meanOf, motionOf, answer, cameraChecks, cameraMotion};
+ghost use Rattle.evc_camera.specs.Camera.{withMv, sumsOf, meanOf, motionOf, answer, cameraChecks, cameraMotion};
 ghost use Rattle.evc_camera.specs.Code.{mostUnits, Within, AllCounted};
 use evc_def::EvcMv;
 use evc_def::MCU;
@@ -42,7 +42,7 @@ fn add(sum: i64, v: i16) -> i64
     sum + v as i64
 }
 
-// A component where its unit counts, else 0: a number is chosen, and no way through the code.
+// A component where its unit counts, else 0: a choice of numbers, without a branch.
 fn component(counted: bool, v: i16) -> i16
     ensures { λ r. ⌜ r ≡ cond counted v (pos 0) ⌝ }
 {
@@ -60,7 +60,7 @@ fn add_mv(s: Sums, counted: bool, mv: EvcMv) -> Sums
     }
 }
 
-// Whether every unit of a run counts.
+// Whether every unit of these counts.
 fn all_counted(map_scu: &[u32], from: usize, to: usize) -> bool
     requires { ⌜ (from ≤ to) × (to ≤ mostUnits) × (to ≤ length (now «map_scu»)) ⌝ }
     ensures { λ r. ⌜ (r ≡ true → AllCounted (now («map_scu» .entry)) from to) ⌝ }
@@ -72,7 +72,7 @@ fn all_counted(map_scu: &[u32], from: usize, to: usize) -> bool
     all
 }
 
-// The sums over the units before `from` become those before `to`. Where all units between are known to count, their words are not read.
+// The sums over the units before `from` become those over the units before `to`; `all` if those between are known to count.
 fn add_units(s: Sums, map_mv: &[i16], map_scu: &[u32], from: usize, to: usize, all: bool) -> Sums
     requires { ⌜ (from ≤ to) × (to ≤ mostUnits) × (to ≤ length (now «map_scu»)) × (mvLen * to ≤ length (now «map_mv»)) ⌝ }
     requires { ⌜ (s ≡ sumsOf (now «map_mv») (now «map_scu») from) × Within s from × (all ≡ true → AllCounted (now «map_scu») from to) ⌝ }
@@ -87,7 +87,7 @@ fn add_units(s: Sums, map_mv: &[i16], map_scu: &[u32], from: usize, to: usize, a
     sums
 }
 
-// Units that are asked together whether all of them count. Fewer are asked too often, of more one in between is too likely not to count.
+// Units that are first asked together whether all of them count: their vectors are then added without a look at each word.
 const RUN: usize = 16;
 
 fn add_run(s: Sums, map_mv: &[i16], map_scu: &[u32], from: usize) -> Sums

@@ -1,16 +1,16 @@
 -- W4's laws. Assumes nothing.
 use mathlib.Core.Bool.{Bool, true, false, not, cond, _&&_}
-use mathlib.Core.List.{List, [], _∷_, map, List·Permᴰ, Permᴰ·refl}
+use mathlib.Core.List.{List, map, List·Permᴰ, Permᴰ·refl}
 use mathlib.Core.Path.{_≡_, refl, sym, ap, ap₂, subst, _∙_}
-use Prim.Native.Nat.{ℕ, zero, suc, _+_, _*_, _/_, _<_, _≤_}
+use Prim.Native.Nat.{ℕ, zero, suc, _*_, _/_, _<_, _≤_}
+use native.Mathlib.Nat.{mul-comm}
 use native.Mathlib.Omega.{arith}
 use borrow.Author.Tests.{ne-eqb}
 use lib.Dec.{T, eqb, eqb→eq}
 use lib.Count.{trailingZeros}
-use lib.IntN.{ℤ, pos, negsuc, negℤ}
-use lib.ListN.{length, getD}
+use lib.IntN.{ℤ, pos, negℤ}
 use lib.Ieee as Ieee
-use lib.Ieee.{Float, fin, isNan, binary64, round, units, odd, ofBits, ofFields, size, span, climb}
+use lib.Ieee.{Float, isNan, round, units, odd, ofBits, ofFields, size, span, climb}
 use Rattle.evc_int.specs.Whole.{eqZ}
 use Rattle.evc_def.specs.Blocks.{badPicture}
 use Rattle.evc_def.specs.Codes.{firstOf}
@@ -20,12 +20,13 @@ use Rattle.evc_util.proofs.Units.{units-small}
 use Rattle.evc_camera.specs.declared.Sums.{Sums}
 use Rattle.evc_camera.specs.declared.CameraMotion.the-variants.{None, Still, Moving}
 use Rattle.evc_camera.specs.declared.EvcCamera.{EvcCamera}
-use Rattle.evc_camera.specs.Camera.{isCounted, withMv, sumsOf, meanOf, motionOf, answer, plusZero, cameraMotion}
+use Rattle.evc_camera.specs.Camera.{isCounted, sumsOf, meanOf, motionOf, answer, plusZero, cameraMotion}
 use Rattle.evc_camera.specs.Code.{mostUnits}
 use Rattle.evc_camera.proofs.Call.{covered}
-use Rattle.evc_camera_law.specs.CameraLaws.{SixAndSeven, FourAndMinusFour, Call, codeOf, reading, Refused, countedMvs, vectors, Unread, AnyOrder, OneByOne, sums, turned, LeftRight, TopBottom, Shown, Within8192, Bounded, CameraLaws}
+use Rattle.evc_camera_law.specs.CameraLaws.{SixAndSeven, FourAndMinusFour, Call, codeOf, reading, Refused, vectors, Unread, AnyOrder, InPlace, ColumnsReversed, RowsReversed, Reordered, sums, turned, LeftRight, TopBottom, Shown, Within8192, Bounded, CameraLaws}
 use Rattle.evc_camera_law.proofs.Means.{mean-is-zero, mean-turned, zero-turned, neg-zero, mean-no-nan, zero-no-nan, mean-bounded, zero-bounded}
-use Rattle.evc_camera_law.proofs.Vectors.{sumOver, sums-over, few-counted, sums-small, alike, map-kept, in-any-order, Adds, kept-adds, neg-adds, mvBy, sumsBy, sums-by}
+use Rattle.evc_camera_law.proofs.Mirrored.{along, rows-reversed, columns-reversed}
+use Rattle.evc_camera_law.proofs.Vectors.{sumOver, sums-over, few-counted, sums-small, counted-picked, counted-by, alike, map-kept, picked, in-any-order, Adds, kept-adds, neg-adds, mvBy, sumsBy, sums-by}
 
 six-and-seven : SixAndSeven
 unfolding cameraMotion sumsOf motionOf meanOf firstOf badPicture round units odd size span climb ofBits ofFields trailingZeros
@@ -60,13 +61,39 @@ any-order c d e f p = accepted-reading c e ∙ ap (λ (s : Sums). answer 0 (moti
 
 -- ---- what is not read
 
-one-by-one : OneByOne
-one-by-one g c d p =
-    sym (alike g (c .mvs) (d .mvs) (c .words) (d .words) (unitsOf (c .W) (c .H)) (p .counts) (p .mv)
-    ∙ ap₂ (λ (W H : ℕ). countedMvs (d .mvs) (d .words) (unitsOf W H)) (p .width) (p .height))
+module _ (g : EvcMv → EvcMv) (c d : Call) where
+  abbrev given : ℕ → List EvcMv
+  given = picked (isCounted (c .words)) (λ (i : ℕ). g (mvAt (c .mvs) i 0))
+
+  abbrev taken : ℕ → List EvcMv
+  taken = picked (isCounted (d .words)) (λ (i : ℕ). mvAt (d .mvs) i 0)
+
+  -- both, over a number of units that may be written otherwise
+  by-units : (n : ℕ) → unitsOf (c .W) (c .H) ≡ n → c .W ≡ d .W → c .H ≡ d .H → List·Permᴰ (given n) (taken n) → List·Permᴰ (map g (vectors c)) (vectors d)
+  by-units n e w h m =
+      along (counted-by g (c .mvs) (c .words) (unitsOf (c .W) (c .H)) ∙ ap given e) m
+      (counted-picked (d .mvs) (d .words) (unitsOf (d .W) (d .H)) ∙ ap taken (sym (ap₂ unitsOf w h) ∙ e))
+
+  in-place : InPlace g c d → List·Permᴰ (map g (vectors c)) (vectors d)
+  in-place p =
+      by-units (unitsOf (c .W) (c .H)) refl (p .width) (p .height)
+      (subst (List·Permᴰ (given (unitsOf (c .W) (c .H)))) (alike _ _ _ _ (unitsOf (c .W) (c .H)) (λ i l. p .unit i l .counts) (λ i l. p .unit i l .mv)) (Permᴰ·refl _))
+
+  columns : ColumnsReversed g c d → List·Permᴰ (map g (vectors c)) (vectors d)
+  columns p =
+      by-units (c .H / 4 * (c .W / 4)) (mul-comm (c .W / 4) (c .H / 4)) (p .width) (p .height)
+      (columns-reversed (c .W / 4) (c .H / 4) _ _ _ _ (λ x x′ y s l. p .unit x x′ y s l .counts) (λ x x′ y s l. p .unit x x′ y s l .mv))
+
+  rows : RowsReversed g c d → List·Permᴰ (map g (vectors c)) (vectors d)
+  rows p =
+      by-units (c .H / 4 * (c .W / 4)) (mul-comm (c .W / 4) (c .H / 4)) (p .width) (p .height)
+      (rows-reversed (c .W / 4) (c .H / 4) _ _ _ _ (λ x y y′ l s. p .unit x y y′ l s .counts) (λ x y y′ l s. p .unit x y y′ l s .mv))
+
+reordered : Reordered
+reordered g c d = (in-place g c d, columns g c d, rows g c d)
 
 unread : Unread
-unread c d e f p = any-order c d e f (subst (List·Permᴰ (vectors c)) (sym (one-by-one (λ (mv : EvcMv). mv) c d p ∙ map-kept (vectors c))) (Permᴰ·refl (vectors c)))
+unread c d e f p = any-order c d e f (subst (λ (l : List EvcMv). List·Permᴰ l (vectors d)) (map-kept (vectors c)) (in-place (λ (mv : EvcMv). mv) c d p))
 
 -- a reading that is not the first has a unit
 some : (n : ℕ) → eqb n 0 ≡ false → 0 < n
@@ -171,4 +198,4 @@ no-nan c =
     (λ n. z)
 
 pub camera-laws : CameraLaws
-camera-laws = (six-and-seven, four-and-minus-four, refused, unread, any-order, one-by-one, left-right, top-bottom, shown, bounded)
+camera-laws = (six-and-seven, four-and-minus-four, refused, unread, any-order, reordered, left-right, top-bottom, shown, bounded)

@@ -1,3 +1,4 @@
 pub mod Means
 pub mod Vectors
+pub mod Mirrored
 pub mod CameraLaws

@@ -13,7 +13,7 @@ use lib.Ieee as Ieee
 use lib.Ieee.{Float, nan, inf, fin, Format, binary64, round, units, odd, ofBits, ofFields, size, span, climb, low, prec, emax, up, down, isNan}
 use lib.Ieee.Fits.{up-pos, down-pos, and-l}
 use lib.Ieee.Order.{round-mono}
-use lib.Ieee.Positive.{positive, above, above-of-le}
+use lib.Ieee.Positive.{above, above-of-le}
 use lib.Ieee.Scale.{round-same}
 use Rattle.evc_int.specs.Whole.{eqZ}
 use Rattle.evc_def.proofs.Codes.{or-yes}

@@ -54,17 +54,40 @@ module _ (mvs : List ℤ) (words : List ℕ) (h : (i : ℕ) → natAbs (getD mvs
   sums-small zero = (omega arith, omega arith)
   sums-small (suc k) = small-more (sumsOf mvs words k) (mvAt mvs k 0) (isCounted words k) (h _) (h _) (sums-small k)
 
--- units that count alike, with vectors by g where they do
-module _ (g : EvcMv → EvcMv) (a b : List ℤ) (v w : List ℕ) where
-  pub alike : (k : ℕ) → ((i : ℕ) → i < k → isCounted v i ≡ isCounted w i) → ((i : ℕ) → i < k → isCounted v i ≡ true → g (mvAt a i 0) ≡ mvAt b i 0) → map g (countedMvs a v k) ≡ countedMvs b w k
-  unfolding countedMvs
-  alike zero p q = refl
-  alike (suc k) p q = pick (isCounted v k) (isCounted w k) (p k (omega arith)) (q k (omega arith)) (alike k (λ i l. p i (omega arith)) (λ i l t. q i (omega arith) t))
+-- ---- what is picked of the first k
+
+unfoldable pub picked : (ℕ → Bool) → (ℕ → EvcMv) → ℕ → List EvcMv
+picked p v zero = []
+picked p v (suc k) = cond (p k) (v k ∷ picked p v k) (picked p v k)
+
+pub counted-picked : (mvs : List ℤ) (words : List ℕ) (k : ℕ) → countedMvs mvs words k ≡ picked (isCounted words) (λ (i : ℕ). mvAt mvs i 0) k
+unfolding countedMvs picked
+counted-picked mvs words zero = refl
+counted-picked mvs words (suc k) = ap (λ (l : List EvcMv). cond (isCounted words k) (mvAt mvs k 0 ∷ l) l) (counted-picked mvs words k)
+
+module _ (p q : ℕ → Bool) (v u : ℕ → EvcMv) where
+  pub alike : (k : ℕ) → ((i : ℕ) → i < k → p i ≡ q i) → ((i : ℕ) → i < k → p i ≡ true → v i ≡ u i) → picked p v k ≡ picked q u k
+  unfolding picked
+  alike zero e f = refl
+  alike (suc k) e f = pick (p k) (q k) (e k (omega arith)) (f k (omega arith)) (alike k (λ i l. e i (omega arith)) (λ i l t. f i (omega arith) t))
     where
-      pick : (s t : Bool) → s ≡ t → (s ≡ true → g (mvAt a k 0) ≡ mvAt b k 0) → map g (countedMvs a v k) ≡ countedMvs b w k
-          → map g (cond s (mvAt a k 0 ∷ countedMvs a v k) (countedMvs a v k)) ≡ cond t (mvAt b k 0 ∷ countedMvs b w k) (countedMvs b w k)
+      pick : (s t : Bool) → s ≡ t → (s ≡ true → v k ≡ u k) → picked p v k ≡ picked q u k → cond s (v k ∷ picked p v k) (picked p v k) ≡ cond t (u k ∷ picked q u k) (picked q u k)
       pick true t e m r = rw (sym e) (ap₂ _∷_ (m refl) r)
       pick false t e m r = rw (sym e) r
+
+module _ (g : EvcMv → EvcMv) (p : ℕ → Bool) (v : ℕ → EvcMv) where
+  pub map-picked : (k : ℕ) → map g (picked p v k) ≡ picked p (λ (i : ℕ). g (v i)) k
+  unfolding picked
+  map-picked zero = refl
+  map-picked (suc k) = pick (p k) (map-picked k)
+    where
+      pick : (b : Bool) → map g (picked p v k) ≡ picked p (λ (i : ℕ). g (v i)) k → map g (cond b (v k ∷ picked p v k) (picked p v k)) ≡ cond b (g (v k) ∷ picked p (λ (i : ℕ). g (v i)) k) (picked p (λ (i : ℕ). g (v i)) k)
+      pick true e = ap (λ (l : List EvcMv). g (v k) ∷ l) e
+      pick false e = e
+
+-- the counted vectors by g are what is picked by g
+pub counted-by : (g : EvcMv → EvcMv) (mvs : List ℤ) (words : List ℕ) (k : ℕ) → map g (countedMvs mvs words k) ≡ picked (isCounted words) (λ (i : ℕ). g (mvAt mvs i 0)) k
+counted-by g mvs words k = ap (map g) (counted-picked mvs words k) ∙ map-picked g (isCounted words) (λ (i : ℕ). mvAt mvs i 0) k
 
 pub map-kept : (l : List EvcMv) → map (λ (mv : EvcMv). mv) l ≡ l
 map-kept [] = refl

@@ -1,9 +1,9 @@
 -- Document 02, W4: its example, what the reading depends on, and the flipped reel. Each statement speaks of `cameraMotion`, which the call's contract
 -- equates its answer with. proofs/CameraLaws proves them.
-use mathlib.Core.Bool.{Bool, true, false, cond, _&&_}
+use mathlib.Core.Bool.{true, false, cond, _&&_}
 use mathlib.Core.List.{List, [], _∷_, map, List·Permᴰ}
 use mathlib.Core.Path.{_≡_}
-use Prim.Native.Nat.{ℕ, zero, suc, _<_, _≤_}
+use Prim.Native.Nat.{ℕ, zero, suc, _+_, _*_, _/_, _<_, _≤_}
 use lib.Dec.{T}
 use lib.IntN.{ℤ, pos, negsuc, negℤ, natAbs}
 use lib.ListN.{length, getD}
@@ -63,14 +63,18 @@ countedMvs mvs words (suc k) = cond (isCounted words k) (mvAt mvs k 0 ∷ counte
 abbrev pub vectors : Call → List EvcMv
 vectors c = countedMvs (c .mvs) (c .words) (unitsOf (c .W) (c .H))
 
--- unit for unit, d counts what c counts, with its vector by g
+-- unit j of d counts if unit i of c does, and its vector is then that one's by g
+pub record SameUnit (g : EvcMv → EvcMv) (c d : Call) (i j : ℕ) : Type 0 where
+  pub counts : isCounted (c .words) i ≡ isCounted (d .words) j
+  pub mv : isCounted (c .words) i ≡ true → g (mvAt (c .mvs) i 0) ≡ mvAt (d .mvs) j 0
+
+-- so it is of each unit, at its place
 pub record InPlace (g : EvcMv → EvcMv) (c d : Call) : Type 0 where
   pub width : c .W ≡ d .W
   pub height : c .H ≡ d .H
-  pub counts : (i : ℕ) → i < unitsOf (c .W) (c .H) → isCounted (c .words) i ≡ isCounted (d .words) i
-  pub mv : (i : ℕ) → i < unitsOf (c .W) (c .H) → isCounted (c .words) i ≡ true → g (mvAt (c .mvs) i 0) ≡ mvAt (d .mvs) i 0
+  pub unit : (i : ℕ) → i < unitsOf (c .W) (c .H) → SameUnit g c d i i
 
--- so nothing else is read: neither list 1, nor units that do not count, nor other bits of a word, nor what lies behind the picture's units
+-- nothing else is read: neither list 1, nor units that do not count, nor other bits of a word, nor what lies behind the picture's units
 abbrev pub Unread : Type 0
 Unread = (c d : Call) → codeOf c ≡ 0 → codeOf d ≡ 0 → InPlace (λ (mv : EvcMv). mv) c d → reading c ≡ reading d
 
@@ -78,17 +82,33 @@ Unread = (c d : Call) → codeOf c ≡ 0 → codeOf d ≡ 0 → InPlace (λ (mv 
 abbrev pub AnyOrder : Type 0
 AnyOrder = (c d : Call) → codeOf c ≡ 0 → codeOf d ≡ 0 → List·Permᴰ (vectors c) (vectors d) → reading c ≡ reading d
 
--- ---- the flipped reel: one component of every counted vector is negated, and units may change places
+-- ---- the flipped reel: units change places, and one component of every counted vector is negated
+
+-- the columns of units from right to left
+pub record ColumnsReversed (g : EvcMv → EvcMv) (c d : Call) : Type 0 where
+  pub width : c .W ≡ d .W
+  pub height : c .H ≡ d .H
+  pub unit : (x x′ y : ℕ) → x + x′ + 1 ≡ c .W / 4 → y < c .H / 4 → SameUnit g c d (y * (c .W / 4) + x) (y * (c .W / 4) + x′)
+
+-- the rows of units from bottom to top
+pub record RowsReversed (g : EvcMv → EvcMv) (c d : Call) : Type 0 where
+  pub width : c .W ≡ d .W
+  pub height : c .H ≡ d .H
+  pub unit : (x y y′ : ℕ) → x < c .W / 4 → y + y′ + 1 ≡ c .H / 4 → SameUnit g c d (y * (c .W / 4) + x) (y′ * (c .W / 4) + x)
+
+-- in all three d has the vectors of c by g, in some order
+abbrev pub Reordered : Type 0
+Reordered =
+    (g : EvcMv → EvcMv) (c d : Call)
+    → (InPlace g c d → List·Permᴰ (map g (vectors c)) (vectors d))
+    × (ColumnsReversed g c d → List·Permᴰ (map g (vectors c)) (vectors d))
+    × (RowsReversed g c d → List·Permᴰ (map g (vectors c)) (vectors d))
 
 abbrev pub mvLeftRight : EvcMv → EvcMv
 mvLeftRight mv = record { x = negℤ (mv .x); y = mv .y }
 
 abbrev pub mvTopBottom : EvcMv → EvcMv
 mvTopBottom mv = record { x = mv .x; y = negℤ (mv .y) }
-
--- where none does, the vectors are c's, one by one
-abbrev pub OneByOne : Type 0
-OneByOne = (g : EvcMv → EvcMv) (c d : Call) → InPlace g c d → vectors d ≡ map g (vectors c)
 
 abbrev pub sums : Call → Sums
 sums c = sumsOf (c .mvs) (c .words) (unitsOf (c .W) (c .H))
@@ -97,7 +117,7 @@ sums c = sumsOf (c .mvs) (c .words) (unitsOf (c .W) (c .H))
 abbrev pub turned : Float → Float
 turned v = cond (Ieee.eq v plusZero) v (Ieee.neg v)
 
--- that sum is negated and its mean turned; the other, and the kind, are kept
+-- then that sum is negated and its mean turned; the other, and the kind, are kept
 abbrev pub LeftRight : Type 0
 LeftRight =
     (c d : Call) → codeOf c ≡ 0 → codeOf d ≡ 0 → List·Permᴰ (map mvLeftRight (vectors c)) (vectors d)
@@ -116,7 +136,7 @@ TopBottom =
 abbrev pub Shown : Type 0
 Shown = (c : Call) → reading c .kind ≡ 2 → (Ieee.eq (reading c .x) plusZero && Ieee.eq (reading c .y) plusZero) ≡ false
 
--- 8192, four times which is the longest component of a vector
+-- 8192 samples are 32768 quarters, the longest component of a vector
 abbrev pub 8192·0 : Float
 8192·0 = fin false 1 (pos 13)
 
@@ -128,4 +148,4 @@ abbrev pub Bounded : Type 0
 Bounded = (c : Call) → ((i : ℕ) → natAbs (getD (c .mvs) i (pos 0)) ≤ 32768) → Within8192 (reading c .x) × Within8192 (reading c .y)
 
 abbrev pub CameraLaws : Type 0
-CameraLaws = SixAndSeven × FourAndMinusFour × Refused × Unread × AnyOrder × OneByOne × LeftRight × TopBottom × Shown × Bounded
+CameraLaws = SixAndSeven × FourAndMinusFour × Refused × Unread × AnyOrder × Reordered × LeftRight × TopBottom × Shown × Bounded

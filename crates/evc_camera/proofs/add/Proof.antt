@@ -1,9 +1,9 @@
 -- `evc_camera::add` meets its contract. Assumes nothing.
-use mathlib.Core.Path.{_≡_, refl}
-use Prim.Native.Nat.{_≤_, _+_, _*_}
+use mathlib.Core.Path.{refl}
+use Prim.Native.Nat.{_≤_, _+_}
 use native.Mathlib.Omega.{arith}
 use lib.IntN.{ℤ, natAbs, _+ℤ_}
-use mir.Syntax.{w16, w64}
+use mir.Syntax.{w64}
 use mir.Val.{SFits}
 use mir.Facts.{toZ-ofZ, sfits-widen}
 use Rattle.evc_int.proofs.Whole.{abs-add-le}

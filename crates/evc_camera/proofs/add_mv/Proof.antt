@@ -1,6 +1,6 @@
 -- `evc_camera::add_mv` meets its contract. Assumes nothing.
 use mathlib.Core.Bool.{Bool, true, false, cond}
-use mathlib.Core.Path.{_≡_, refl, sym, ap, _∙_}
+use mathlib.Core.Path.{_≡_, ap, _∙_}
 use Prim.Native.Nat.{ℕ, _+_, _*_, _≤_, _<_, _^_}
 use native.Mathlib.Nat.{add-zero}
 use native.Mathlib.Omega.{arith}

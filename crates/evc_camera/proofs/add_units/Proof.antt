@@ -1,5 +1,5 @@
 -- `evc_camera::add_units` meets its contract. The invariant: the sums are those over the first i units. Assumes nothing.
-use Prim.Native.Nat.{ℕ, _+_, _-_, _*_, _<_, _≤_}
+use Prim.Native.Nat.{_-_, _≤_}
 use mathlib.Core.Bool.{_||_}
 use mathlib.Core.Path.{_≡_, ap, subst, _∙_}
 use native.Mathlib.Omega.{arith}

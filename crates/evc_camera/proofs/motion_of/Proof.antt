@@ -1,7 +1,7 @@
 -- `evc_camera::motion_of` meets its contract. Assumes nothing.
-use Prim.Native.Nat.{ℕ, suc, _*_, _-_, _^_, _≤_}
+use Prim.Native.Nat.{suc, _*_, _-_, _^_, _≤_}
 use mathlib.Core.Path.{_≡_, refl}
-use mathlib.Core.Bool.{Bool, true, false, _&&_}
+use mathlib.Core.Bool.{true, false, _&&_}
 use native.Mathlib.Omega.{arith}
 use borrow.Author.Needs.{needs}
 use borrow.Author.Tests.{eq-eqb, ne-eqb}
