@@ -2,15 +2,23 @@
 use mathlib.Core.Bool.{Bool, true, false, cond, _||_}
 use mathlib.Core.List.{List}
 use mathlib.Core.Path.{_≡_, refl, sym, ap, ap₂, subst, _∙_}
-use Prim.Native.Nat.{ℕ, _+_, _≤_}
+use Prim.Native.Nat.{ℕ, _+_, _*_, _≤_}
 use native.Mathlib.Numerals.{add-one}
 use native.Mathlib.Omega.{arith}
+use lib.Dec.{lit<}
 use lib.IntN.{ℤ, pos, natAbs}
+use mir.Syntax.{w64}
+use mir.Val.{SFits}
+use Rattle.evc_int.proofs.Machine.{fit-abs}
 use Rattle.evc_def.specs.declared.EvcMv.{EvcMv}
 use Rattle.evc_util.specs.Units.{mvAt}
 use Rattle.evc_camera.specs.declared.Sums.{Sums}
 use Rattle.evc_camera.specs.Camera.{isCounted, withMv, sumsOf}
-use Rattle.evc_camera.specs.Code.{Within}
+use Rattle.evc_camera.specs.Code.{mostUnits, Within}
+
+-- a sum fits 64 bits
+pub sum-fits : (z : ℤ) → natAbs z ≤ 32768 * mostUnits → SFits w64 z
+sum-fits z h = fit-abs h (lit< tt)
 
 pub within-wider : (s : Sums) (k m : ℕ) → Within s k → k ≤ m → Within s m
 within-wider s k m w h = record { few = omega arith; across = omega arith; down = omega arith }

@@ -1,5 +1,5 @@
 -- W4's laws. Assumes nothing.
-use mathlib.Core.Bool.{Bool, true, false, not, cond, _&&_}
+use mathlib.Core.Bool.{Bool, true, false, cond, _&&_}
 use mathlib.Core.List.{List, map, List·Permᴰ, Permᴰ·refl}
 use mathlib.Core.Path.{_≡_, refl, sym, ap, ap₂, subst, _∙_}
 use Prim.Native.Nat.{ℕ, zero, suc, _*_, _/_, _<_, _≤_}
@@ -10,7 +10,7 @@ use lib.Dec.{T, eqb, eqb→eq}
 use lib.Count.{trailingZeros}
 use lib.IntN.{ℤ, pos, negℤ}
 use lib.Ieee as Ieee
-use lib.Ieee.{Float, isNan, round, units, odd, ofBits, ofFields, size, span, climb}
+use lib.Ieee.{Float, round, units, odd, ofBits, ofFields, size, span, climb}
 use Rattle.evc_int.specs.Whole.{eqZ}
 use Rattle.evc_def.specs.Blocks.{badPicture}
 use Rattle.evc_def.specs.Codes.{firstOf}
@@ -24,7 +24,7 @@ use Rattle.evc_camera.specs.Camera.{isCounted, sumsOf, meanOf, motionOf, answer
 use Rattle.evc_camera.specs.Code.{mostUnits}
 use Rattle.evc_camera.proofs.Call.{covered}
 use Rattle.evc_camera_law.specs.CameraLaws.{SixAndSeven, FourAndMinusFour, Call, codeOf, reading, Refused, vectors, Unread, AnyOrder, InPlace, ColumnsReversed, RowsReversed, Reordered, sums, turned, LeftRight, TopBottom, Shown, Within8192, Bounded, CameraLaws}
-use Rattle.evc_camera_law.proofs.Means.{mean-is-zero, mean-turned, zero-turned, neg-zero, mean-no-nan, zero-no-nan, mean-bounded, zero-bounded}
+use Rattle.evc_camera_law.proofs.Means.{mean-is-zero, mean-turned, zero-turned, neg-zero, mean-bounded, zero-bounded}
 use Rattle.evc_camera_law.proofs.Mirrored.{along, rows-reversed, columns-reversed}
 use Rattle.evc_camera_law.proofs.Vectors.{sumOver, sums-over, few-counted, sums-small, counted-picked, counted-by, alike, map-kept, picked, in-any-order, Adds, kept-adds, neg-adds, mvBy, sumsBy, sums-by}
 
@@ -187,14 +187,6 @@ bounded c h =
     let s = sums-small (c .mvs) (c .words) h (unitsOf (c .W) (c .H)) in
     by-sums (λ (r : EvcCamera). Within8192 (r .x) × Within8192 (r .y)) c
     (λ e. by-motion (λ (r : EvcCamera). Within8192 (r .x) × Within8192 (r .y)) (sums c) (λ n. z) z (λ k f. (mean-bounded _ k _ (s .0), mean-bounded _ k _ (s .1))))
-    (λ n. z)
-
--- of any numbers, also of such as no map of 16 bits holds
-pub no-nan : (c : Call) → T (not (isNan (reading c .x))) × T (not (isNan (reading c .y)))
-no-nan c =
-    let z : T (not (isNan plusZero)) × T (not (isNan plusZero)) = (zero-no-nan, zero-no-nan) in
-    by-sums (λ (r : EvcCamera). T (not (isNan (r .x))) × T (not (isNan (r .y)))) c
-    (λ e. by-motion (λ (r : EvcCamera). T (not (isNan (r .x))) × T (not (isNan (r .y)))) (sums c) (λ n. z) z (λ k f. (mean-no-nan _ _, mean-no-nan _ _)))
     (λ n. z)
 
 pub camera-laws : CameraLaws

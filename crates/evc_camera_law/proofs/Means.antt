@@ -10,7 +10,7 @@ use lib.Count.{trailingZeros}
 use lib.Dec.{T, ltb, eqb, ltb→lt, lt→ltb, eqb→eq}
 use lib.IntN.{ℤ, pos, negsuc, negℤ, natAbs}
 use lib.Ieee as Ieee
-use lib.Ieee.{Float, nan, inf, fin, Format, binary64, round, units, odd, ofBits, ofFields, size, span, climb, low, prec, emax, up, down, isNan}
+use lib.Ieee.{Float, nan, inf, fin, Format, binary64, round, units, odd, ofBits, ofFields, size, span, climb, low, prec, emax, up, down}
 use lib.Ieee.Fits.{up-pos, down-pos, and-l}
 use lib.Ieee.Order.{round-mono}
 use lib.Ieee.Positive.{above, above-of-le}
@@ -136,22 +136,6 @@ units-unsigned f q k = pick (ltb (q * 2 ^ k) (2 ^ (low f + suc (emax f))))
 round-unsigned : (f : Format) (a b : ℕ) → T (unsigned (round f false a b))
 unfolding round
 round-unsigned f a b = units-unsigned f _ _
-
--- so neither it nor its negative is `nan`
-no-nans : (v : Float) → T (unsigned v) → T (not (isNan v)) × T (not (isNan (Ieee.neg v)))
-unfolding isNan Ieee.neg
-no-nans nan u = absurd u
-no-nans (inf s) u = (tt, tt)
-no-nans (fin s m e) u = (tt, tt)
-
-pub mean-no-nan : (z : ℤ) (n : ℕ) → T (not (isNan (meanOf z n)))
-unfolding meanOf
-mean-no-nan (pos m) n = no-nans _ (round-unsigned binary64 m (4 * n)) .0
-mean-no-nan (negsuc m) n = subst (λ (v : Float). T (not (isNan v))) (sym (round-neg binary64 false (suc m) (4 * n))) (no-nans _ (round-unsigned binary64 (suc m) (4 * n)) .1)
-
-pub zero-no-nan : T (not (isNan plusZero))
-unfolding ofBits ofFields isNan
-zero-no-nan = tt
 
 is-8192 : round binary64 false 8192 1 ≡ 8192·0
 unfolding round units odd size span climb trailingZeros

@@ -13,6 +13,7 @@ use Rattle.evc_int.specs.Whole.{−_}
 use Rattle.evc_def.specs.Codes.{firstOf}
 use Rattle.evc_def.specs.declared.EvcMv.{EvcMv}
 use Rattle.evc_util.specs.Units.{unitsOf, mvAt}
+use Rattle.evc_law.specs.Demand3.{mvLeftRight, mvTopBottom}
 use Rattle.evc_camera.specs.declared.Sums.{Sums}
 use Rattle.evc_camera.specs.declared.EvcCamera.{EvcCamera}
 use Rattle.evc_camera.specs.Camera.{isCounted, sumsOf, plusZero, cameraChecks, cameraMotion}
@@ -104,12 +105,6 @@ Reordered =
     × (ColumnsReversed g c d → List·Permᴰ (map g (vectors c)) (vectors d))
     × (RowsReversed g c d → List·Permᴰ (map g (vectors c)) (vectors d))
 
-abbrev pub mvLeftRight : EvcMv → EvcMv
-mvLeftRight mv = record { x = negℤ (mv .x); y = mv .y }
-
-abbrev pub mvTopBottom : EvcMv → EvcMv
-mvTopBottom mv = record { x = mv .x; y = negℤ (mv .y) }
-
 abbrev pub sums : Call → Sums
 sums c = sumsOf (c .mvs) (c .words) (unitsOf (c .W) (c .H))
 
@@ -117,7 +112,7 @@ sums c = sumsOf (c .mvs) (c .words) (unitsOf (c .W) (c .H))
 abbrev pub turned : Float → Float
 turned v = cond (Ieee.eq v plusZero) v (Ieee.neg v)
 
--- then that sum is negated and its mean turned; the other, and the kind, are kept
+-- with vectors mirrored as demand 3 has it, that sum is negated and its mean turned; the other, and the kind, are kept
 abbrev pub LeftRight : Type 0
 LeftRight =
     (c d : Call) → codeOf c ≡ 0 → codeOf d ≡ 0 → List·Permᴰ (map mvLeftRight (vectors c)) (vectors d)

@@ -1,21 +1,21 @@
 -- `evc_camera::add_mv` meets its contract. Assumes nothing.
 use mathlib.Core.Bool.{Bool, true, false, cond}
 use mathlib.Core.Path.{_≡_, ap, _∙_}
-use Prim.Native.Nat.{ℕ, _+_, _*_, _≤_, _<_, _^_}
+use Prim.Native.Nat.{ℕ, _+_, _≤_, _<_, _^_}
 use native.Mathlib.Nat.{add-zero}
 use native.Mathlib.Omega.{arith}
 use borrow.Author.Needs.{needs}
-use lib.Dec.{lit<}
-use lib.IntN.{ℤ, pos, natAbs, _+ℤ_}
+use lib.IntN.{ℤ, pos, _+ℤ_}
 use mir.Syntax.{w16, w64}
 use mir.Val.{SFits, boolByte}
 use mir.Facts.{toZ-ofZ}
-use Rattle.evc_int.proofs.Machine.{res, fit-abs}
+use Rattle.evc_int.proofs.Machine.{res}
 use Rattle.evc_int.proofs.Whole.{of, nat, is-+, same}
 use Rattle.evc_def.specs.declared.EvcMv.{EvcMv}
 use Rattle.evc_camera.specs.declared.Sums.{Sums}
 use Rattle.evc_camera.specs.Camera.{withMv}
 use Rattle.evc_camera.specs.Code.{mostUnits}
+use Rattle.evc_camera.proofs.Units.{sum-fits}
 use Rattle.evc_camera.proofs.add_mv.Statement.{statement}
 use Rattle.evc_camera.proofs.add_mv.Tie as tie
 
@@ -25,9 +25,6 @@ add-t5 c = record { fits = low (c .before .args .counted) (c .before .args .s .u
     low : (b : Bool) (n : ℕ) → n ≤ mostUnits → n + boolByte b < 2 ^ 64
     low true n h = omega arith
     low false n h = omega arith
-
-fits : (z : ℤ) → natAbs z ≤ 32768 * mostUnits → SFits w64 z
-fits z h = fit-abs h (lit< tt)
 
 x-fits : (c : tie.After-component) → SFits w16 (c .before .before .before .args .mv .x)
 x-fits c = search needs
@@ -50,8 +47,8 @@ returns c =
     let s = p .before .before .before .before .before in
     let v = simp (toZ-ofZ (x-fits (p .before .before))) at (p .before .before .component .ensures) in
     let w = simp (toZ-ofZ (y-fits (c .before .before))) at (c .before .before .component2 .ensures) in
-    let x = simp (toZ-ofZ (fits (s .args .s .x) (s .pre .across)), res w16 {z = p .before .before .component .result} (p .before .before .component .ok)) at (p .add .ensures) in
-    let y = simp (toZ-ofZ (fits (s .args .s .y) (s .pre .down)), res w16 {z = c .before .before .component2 .result} (c .before .before .component2 .ok)) at (c .add2 .ensures) in
+    let x = simp (toZ-ofZ (sum-fits (s .args .s .x) (s .pre .across)), res w16 {z = p .before .before .component .result} (p .before .before .component .ok)) at (p .add .ensures) in
+    let y = simp (toZ-ofZ (sum-fits (s .args .s .y) (s .pre .down)), res w16 {z = c .before .before .component2 .result} (c .before .before .component2 .ok)) at (c .add2 .ensures) in
     simp (res w64 {z = p .add .result} (p .add .ok), res w64 {z = c .add2 .result} (c .add2 .ok))
     (made (s .args .s) (s .args .counted) (s .args .mv) _ _ (x .0 ∙ ap (λ (t : ℤ). s .args .s .x +ℤ t) v) (y .0 ∙ ap (λ (t : ℤ). s .args .s .y +ℤ t) w), x .1, y .1)
 
