@@ -1,13 +1,15 @@
 -- `evc_camera::answer` meets its contract. Assumes nothing.
+use mathlib.Core.Path.{sym, ap}
 use borrow.Author.Needs.{needs}
+use Rattle.evc_camera.specs.Camera.{answer}
 use Rattle.evc_camera.proofs.answer.Statement.{statement}
 use Rattle.evc_camera.proofs.answer.Tie as tie
 
 returns : tie.Need-returns
-returns c = cc
+returns c = sym (ap (answer (c .before .before .args .code)) (c .enum-told .given .1))
 
 returns-2 : tie.Need-returns-2
-returns-2 c = cc
+returns-2 c = sym (ap (answer (c .before .before .args .code)) (c .enum-told2 .given .1))
 
 returns-3 : tie.Need-returns-3
 returns-3 c = cc
