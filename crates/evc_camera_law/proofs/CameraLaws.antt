@@ -59,7 +59,7 @@ few-units c e =
 any-order : AnyOrder
 any-order c d e f p = accepted-reading c e ∙ ap (λ (s : Sums). answer 0 (motionOf s)) (by-vectors c ∙ in-any-order p ∙ sym (by-vectors d)) ∙ sym (accepted-reading d f)
 
--- ---- what is not read
+-- ---- units at their places, and columns or rows reversed
 
 module _ (g : EvcMv → EvcMv) (c d : Call) where
   abbrev given : ℕ → List EvcMv
@@ -92,6 +92,7 @@ module _ (g : EvcMv → EvcMv) (c d : Call) where
 reordered : Reordered
 reordered g c d = (in-place g c d, columns g c d, rows g c d)
 
+-- so nothing else is read
 unread : Unread
 unread c d e f p = any-order c d e f (subst (λ (l : List EvcMv). List·Permᴰ l (vectors d)) (map-kept (vectors c)) (in-place (λ (mv : EvcMv). mv) c d p))
 
