@@ -25,18 +25,17 @@ use Rattle.evc_clip.specs.Clip.{margin, clipComponent, clipMv, clippedPlace}
 use Rattle.evc_clip.proofs.Laws.{lastPlace, clipped-place}
 use Rattle.evc_law.specs.General.{tapped, general₁, general}
 use Rattle.evc_law.specs.Invisible.{exactPlace, wholeSample, Hidden, small, kept, raised, lowered}
-use Rattle.evc_law.proofs.Phases.{tapped-whole, tapped-same}
+use Rattle.evc_law.proofs.Phases.{tapped-is, tapped-whole, tapped-same}
 use Rattle.evc_law.proofs.Paths.{aligned-phase}
 
 -- ---- the taps of a place over equal numbers: their sum is 64
 
 tapped-flat : (k : PlaneType) (f : ℤ → ℤ) (p : ℤ) (c : ℕ) (e : ℤ) → ((t : ℕ) → t ≤ reach k → f (placeOf k p +ℤ pos c +ℤ − lead k +ℤ pos t) ≡ e) → tapped k f p c ≡ pos 64 *ℤ e
-unfolding tapped
 tapped-flat k f p c e h =
     let q = phaseOf k p in
     let s = shape k q (phase-small k p q refl) in
     let b = balance (taps k q) (λ (t : ℕ). f (placeOf k p +ℤ pos c +ℤ − lead k +ℤ pos t)) (λ _. e ⁺) (e ⁻) (λ t l. is-eq (h t (omega (arith, s .count))) (of e)) in
-    same b (is-k* 64 (of e)) (omega (arith, s .total (e ⁺), s .total (e ⁻)))
+    tapped-is k f p c ∙ same b (is-k* 64 (of e)) (omega (arith, s .total (e ⁺), s .total (e ⁻)))
 
 -- ---- where the taps of a place lie that is past a limit
 

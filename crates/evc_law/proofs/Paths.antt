@@ -30,7 +30,7 @@ use Rattle.evc_filter.proofs.Sums.{shape}
 use Rattle.evc_interp.specs.Prediction.{phaseOf, placeOf, isFiltered, startOf, windowOf, sampleBy, predicted}
 use Rattle.evc_interp.proofs.Windows.{phase-small}
 use Rattle.evc_law.specs.General.{tapped, general₁, general}
-use Rattle.evc_law.proofs.Phases.{tapSum-same, across-alone, down-alone, sample-alone}
+use Rattle.evc_law.proofs.Phases.{tapSum-same, tapped-is, across-alone, down-alone, sample-alone}
 
 -- ---- the phase of a clipped place
 
@@ -112,25 +112,26 @@ module _ (k : PlaneType) (W H : ℕ) (q : List ℕ) (done : padCode k W H q ≡ 
     -- the taps across, over row r of the window, and the taps down, over column x
     row-reads : (b : Bool) (j : ℤ) (r n : ℕ) → n ≡ windowOf k W H true b gmv + r * strideOf k W + x → j ≡ startOf k b (gmv .y) +ℤ pos r → r < padOf k
         → tapSum (taps k (phaseOf k (gmv .x))) (along (padded k W H q) n 1) ≡ tapped k (λ (i : ℤ). pos (referenceOf k W H q i j)) (gmv .x) x
-    unfolding tapped
     row-reads b j r n en ej lr =
         tapSum-same (taps k (phaseOf k (gmv .x))) _ _
         (λ t lt. ap pos (window-reads true b _ j (x + t) r (n + t * 1) (omega arith) (start-filtered k (gmv .x) x t) ej (lx t (tap-within k (gmv .x) t lt)) lr))
+        ∙ sym (tapped-is k (λ (i : ℤ). pos (referenceOf k W H q i j)) (gmv .x) x)
 
     column-reads : (i : ℤ) → i ≡ startOf k false (gmv .x) +ℤ pos x
         → tapSum (taps k (phaseOf k (gmv .y))) (along (padded k W H q) (windowOf k W H false true gmv + y * strideOf k W + x) (strideOf k W)) ≡ tapped k (λ (j : ℤ). pos (referenceOf k W H q i j)) (gmv .y) y
-    unfolding tapped
     column-reads i ei =
         tapSum-same (taps k (phaseOf k (gmv .y))) _ _
         (λ t lt. ap pos (window-reads false true i _ x (y + t) _ (omega (arith, add-mul y t (strideOf k W))) ei (start-filtered k (gmv .y) y t) column-in (ly t (tap-within k (gmv .y) t lt))))
+        ∙ sym (tapped-is k (λ (j : ℤ). pos (referenceOf k W H q i j)) (gmv .y) y)
 
     -- both: the taps down over the rows' results
     rows-read : interpolatedTwice k (phaseOf k (gmv .x)) (phaseOf k (gmv .y)) (padded k W H q) (windowOf k W H true true gmv + y * strideOf k W + x) (strideOf k W) ≡ general k (referenceOf k W H q) (gmv .x) (gmv .y) x y
-    unfolding interpolatedTwice rowStage general general₁ tapped
+    unfolding interpolatedTwice rowStage general general₁
     rows-read =
         ap secondStage
         (tapSum-same (taps k (phaseOf k (gmv .y))) _ _
-        (λ t lt. ap firstStage (row-reads true _ (y + t) _ (omega (arith, add-mul y t (strideOf k W))) (start-filtered k (gmv .y) y t) (ly t (tap-within k (gmv .y) t lt)))))
+        (λ t lt. ap firstStage (row-reads true _ (y + t) _ (omega (arith, add-mul y t (strideOf k W))) (start-filtered k (gmv .y) y t) (ly t (tap-within k (gmv .y) t lt))))
+        ∙ sym (tapped-is k (general₁ k (referenceOf k W H q) (gmv .x) x) (gmv .y) y))
 
     -- a path that leaves a direction unfiltered only at phase 0
     by-path : (a b : Bool) → (a ≡ false → phaseOf k (gmv .x) ≡ 0) → (b ≡ false → phaseOf k (gmv .y) ≡ 0)

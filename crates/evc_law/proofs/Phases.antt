@@ -1,7 +1,7 @@
 -- The general filter at phase 0: the taps of phase 0 pick one sample, so that at phase 0 in a direction the general filter is one direction alone, and at phase
 -- 0 in both it is the sample. For luma and chroma at once. Assumes nothing.
 use mathlib.Core.List.{List, [], _∷_}
-use mathlib.Core.Path.{_≡_, refl, ap, ap₂, _∙_, fun-ext}
+use mathlib.Core.Path.{_≡_, refl, sym, ap, ap₂, _∙_, fun-ext}
 use Prim.Native.Nat.{ℕ, suc, _+_, _<_, _≤_, suc-le-suc, zero-le}
 use native.Mathlib.Omega.{arith}
 use lib.Dec.{lit<}
@@ -35,6 +35,13 @@ abbrev tapEx : List ℤ → (ℕ → ℤ) → Ex
 tapEx [] f = ! (pos 0)
 tapEx (t ∷ ts) f = ! t ⊗ ! (f 0) ⊕ tapEx ts (λ (n : ℕ). f (suc n))
 
+-- ---- the definition writes its numbers out; in the words of the call's own definitions
+
+pub tapped-is : (k : PlaneType) (f : ℤ → ℤ) (place : ℤ) (c : ℕ) → tapped k f place c ≡ tapSum (taps k (phaseOf k place)) (λ (t : ℕ). f (placeOf k place +ℤ pos c +ℤ − lead k +ℤ pos t))
+unfolding tapped phaseOf placeOf
+tapped-is Y f place c = refl
+tapped-is UV f place c = refl
+
 -- ---- phase 0
 
 picks : (k : PlaneType) (f : ℕ → ℤ) → tapSum (taps k 0) f ≡ pos 64 *ℤ f (lead k)
@@ -43,10 +50,10 @@ picks UV f = solve (tapEx (taps UV 0) f) (! (pos 64) ⊗ ! (f 1)) (omega arith)
 
 -- the taps of a place at phase 0: the sample there, times 64
 pub tapped-whole : (k : PlaneType) (f : ℤ → ℤ) (place : ℤ) (c : ℕ) → phaseOf k place ≡ 0 → tapped k f place c ≡ pos 64 *ℤ f (placeOf k place +ℤ pos c)
-unfolding tapped
 tapped-whole k f place c h =
     let p = placeOf k place in
-    ap (λ (q : ℕ). tapSum (taps k q) (λ (t : ℕ). f (p +ℤ pos c +ℤ − lead k +ℤ pos t))) h
+    tapped-is k f place c
+    ∙ ap (λ (q : ℕ). tapSum (taps k q) (λ (t : ℕ). f (p +ℤ pos c +ℤ − lead k +ℤ pos t))) h
     ∙ picks k (λ (t : ℕ). f (p +ℤ pos c +ℤ − lead k +ℤ pos t))
     ∙ ap (λ (i : ℤ). pos 64 *ℤ f i) (solve (! p ⊕ ! (pos c) ⊕ neg (! (pos (lead k))) ⊕ ! (pos (lead k))) (! p ⊕ ! (pos c)) (omega arith))
 
@@ -67,8 +74,10 @@ sixteenfold s =
     solve-shr 1024 (! (pos 16) ⊗ ! s ⊕ ! (pos 512)) (! (shrZ (s +ℤ pos 32) 64)) (omega arith)
 
 tapped-scale : (k : PlaneType) (a : ℤ) (f : ℤ → ℤ) (place : ℤ) (c : ℕ) → tapped k (λ (i : ℤ). a *ℤ f i) place c ≡ a *ℤ tapped k f place c
-unfolding tapped
-tapped-scale k a f place c = tapSum-scale a (taps k (phaseOf k place)) (λ (t : ℕ). f (placeOf k place +ℤ pos c +ℤ − lead k +ℤ pos t))
+tapped-scale k a f place c =
+    tapped-is k (λ (i : ℤ). a *ℤ f i) place c
+    ∙ tapSum-scale a (taps k (phaseOf k place)) (λ (t : ℕ). f (placeOf k place +ℤ pos c +ℤ − lead k +ℤ pos t))
+    ∙ ap (λ (z : ℤ). a *ℤ z) (sym (tapped-is k f place c))
 
 pub tapped-same : (k : PlaneType) (f g : ℤ → ℤ) → ((i : ℤ) → f i ≡ g i) → (place : ℤ) (c : ℕ) → tapped k f place c ≡ tapped k g place c
 tapped-same k f g h place c = ap (λ (f : ℤ → ℤ). tapped k f place c) (fun-ext h)
@@ -80,18 +89,18 @@ module _ (k : PlaneType) (s : ℤ → ℤ → ℕ) (px py : ℤ) (c r : ℕ) whe
   row : ℤ
   row = placeOf k py +ℤ pos r
 
-  pub across-alone : phaseOf k py ≡ 0 → general k s px py c r ≡ oneDirection (tapped k (λ (i : ℤ). pos (s i (placeOf k py +ℤ pos r))) px c)
-  unfolding general general₁ row
-  across-alone h =
-      ap (λ (z : ℤ). clipSample (shrZ (z +ℤ pos 512) 1024)) (tapped-whole k (general₁ k s px c) py r h)
-      ∙ ap clipSample (twice-down (tapped k (λ (i : ℤ). pos (s i row)) px c))
-
   pub down-alone : phaseOf k px ≡ 0 → general k s px py c r ≡ oneDirection (tapped k (λ (j : ℤ). pos (s (placeOf k px +ℤ pos c) j)) py r)
   unfolding general general₁ column
   down-alone h =
       ap (λ (z : ℤ). clipSample (shrZ (z +ℤ pos 512) 1024))
       (tapped-same k _ _ (λ j. ap (λ (z : ℤ). shrZ z 4) (tapped-whole k (λ (i : ℤ). pos (s i j)) px c h) ∙ sixteen (pos (s column j))) py r ∙ tapped-scale k (pos 16) (λ (j : ℤ). pos (s column j)) py r)
       ∙ ap clipSample (sixteenfold (tapped k (λ (j : ℤ). pos (s column j)) py r))
+
+  pub across-alone : phaseOf k py ≡ 0 → general k s px py c r ≡ oneDirection (tapped k (λ (i : ℤ). pos (s i (placeOf k py +ℤ pos r))) px c)
+  unfolding general general₁ row
+  across-alone h =
+      ap (λ (z : ℤ). clipSample (shrZ (z +ℤ pos 512) 1024)) (tapped-whole k (general₁ k s px c) py r h)
+      ∙ ap clipSample (twice-down (tapped k (λ (i : ℤ). pos (s i row)) px c))
 
   pub sample-alone : phaseOf k px ≡ 0 → phaseOf k py ≡ 0 → s (placeOf k px +ℤ pos c) (placeOf k py +ℤ pos r) ≤ 1023 → general k s px py c r ≡ s (placeOf k px +ℤ pos c) (placeOf k py +ℤ pos r)
   unfolding column row

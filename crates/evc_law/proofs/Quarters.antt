@@ -1,6 +1,6 @@
 -- A block's quarters: the checks accept them, and the general filter at a place moved by whole samples is the filter as many samples further on. Assumes nothing.
 use mathlib.Core.Bool.{Bool, true, false, not, cond, _&&_}
-use mathlib.Core.Path.{_≡_, refl, ap, ap₂, _∙_}
+use mathlib.Core.Path.{_≡_, refl, sym, ap, ap₂, _∙_}
 use Prim.Native.Nat.{ℕ, _+_, _*_, _/_, _%_, _≤_}
 use native.Mathlib.Omega.{arith}
 use lib.Dec.{T}
@@ -24,7 +24,7 @@ use Rattle.evc_mc.specs.Block.{Component, typeOf, widthOf, heightOf}
 use Rattle.evc_law.specs.General.{tapped, general₁, general}
 use Rattle.evc_law.specs.Demand3.{Picture}
 use Rattle.evc_law.specs.Invisible.{quarterOf, exactList}
-use Rattle.evc_law.proofs.Phases.{tapSum-same, tapped-same}
+use Rattle.evc_law.proofs.Phases.{tapSum-same, tapped-is, tapped-same}
 
 -- ---- the checks accept a quarter
 
@@ -68,14 +68,15 @@ module _ (k : PlaneType) where
       split-only m p′ (q +ℤ pos d) r (modulo-lt m p (some-phase k)) (solve (! p′) (! (pos m) ⊗ (! q ⊕ ! (pos d)) ⊕ ! (pos r)) (omega arith))
 
   tapped-shift : (f : ℤ → ℤ) (p p′ : ℤ) (d c : ℕ) → p′ ≡ p +ℤ pos (phases k * d) → tapped k f p′ c ≡ tapped k f p (d + c)
-  unfolding tapped
   tapped-shift f p p′ d c e =
       let q = placeOf k p in
       let r = phaseOf k p in
       let o = shift p p′ d e in
-      ap₂ (λ (n : ℕ) (z : ℤ). tapSum (taps k n) (λ (t : ℕ). f (z +ℤ pos c +ℤ − lead k +ℤ pos t))) (o .1) (o .0)
+      tapped-is k f p′ c
+      ∙ ap₂ (λ (n : ℕ) (z : ℤ). tapSum (taps k n) (λ (t : ℕ). f (z +ℤ pos c +ℤ − lead k +ℤ pos t))) (o .1) (o .0)
       ∙ tapSum-same (taps k r) _ _
       (λ t l. ap f (solve (! q ⊕ ! (pos d) ⊕ ! (pos c) ⊕ neg (! (pos (lead k))) ⊕ ! (pos t)) (! q ⊕ ! (pos (d + c)) ⊕ neg (! (pos (lead k))) ⊕ ! (pos t)) (omega arith)))
+      ∙ sym (tapped-is k f p (d + c))
 
   general-shift : (s : ℤ → ℤ → ℕ) (px px′ py py′ : ℤ) (d e c r : ℕ) → px′ ≡ px +ℤ pos (phases k * d) → py′ ≡ py +ℤ pos (phases k * e) → general k s px′ py′ c r ≡ general k s px py (d + c) (e + r)
   unfolding general general₁

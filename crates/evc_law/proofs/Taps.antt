@@ -17,7 +17,7 @@ use Rattle.evc_filter.proofs.Sums.{shape}
 use Rattle.evc_interp.specs.Prediction.{phaseOf, placeOf}
 use Rattle.evc_interp.proofs.Windows.{some-phase}
 use Rattle.evc_law.specs.General.{tapped, general₁, general}
-use Rattle.evc_law.proofs.Phases.{tapped-whole, tapped-same}
+use Rattle.evc_law.proofs.Phases.{tapped-is, tapped-whole, tapped-same}
 
 -- ---- the tap sum, for any number of taps
 
@@ -62,7 +62,7 @@ LineMirrored N f g = (i i′ : ℤ) → i +ℤ i′ +ℤ pos 1 ≡ N → g i ≡
 -- the places add up to D whole samples, by which the block is smaller than the plane; the block's samples c and c′ are each other's mirror
 module _ (k : PlaneType) (f g : ℤ → ℤ) (N D : ℤ) (mirror : LineMirrored N f g) (p p′ : ℤ) (c c′ : ℕ) (places : p +ℤ p′ ≡ pos (phases k) *ℤ D) (samples : D +ℤ pos (c + c′ + 1) ≡ N) where
   pub tapped-mirror : tapped k g p′ c′ ≡ tapped k f p c
-  unfolding tapped phaseOf placeOf
+  unfolding phaseOf placeOf
   tapped-mirror = go (phaseOf k p) refl
     where
       m : ℕ
@@ -91,13 +91,15 @@ module _ (k : PlaneType) (f g : ℤ → ℤ) (N D : ℤ) (mirror : LineMirrored 
           let w′ = D -ℤ w -ℤ pos 1 in
           let o = split-only m p′ w′ (m - suc q) (omega arith) (solve (! p′) (! (pos m) ⊗ (! D ⊖ ! w ⊖ ! (pos 1)) ⊕ ! (pos (m - suc q))) (omega arith)) in
           let over : ℤ → ℕ → ℤ = λ (z : ℤ) (t : ℕ). g (z +ℤ pos c′ +ℤ − b +ℤ pos t) in
-          ap₂ (λ (x : ℕ) (z : ℤ). tapSum (taps k x) (over z)) (o .1) (o .0)
+          tapped-is k g p′ c′
+          ∙ ap₂ (λ (x : ℕ) (z : ℤ). tapSum (taps k x) (over z)) (o .1) (o .0)
           ∙ ap (λ (ts : List ℤ). tapSum ts (over w′)) (taps-mirror k q (omega arith))
           ∙ tapSum-mirror (taps k (suc q)) (λ (t : ℕ). f (w +ℤ pos c +ℤ − b +ℤ pos t)) (over w′)
           (λ i j s. mirror (w′ +ℤ pos c′ +ℤ − b +ℤ pos i) (w +ℤ pos c +ℤ − b +ℤ pos j)
           (solve ((! D ⊖ ! w ⊖ ! (pos 1)) ⊕ ! (pos c′) ⊕ neg (! (pos b)) ⊕ ! (pos i) ⊕ (! w ⊕ ! (pos c) ⊕ neg (! (pos b)) ⊕ ! (pos j)) ⊕ ! (pos 1)) (! N)
           (omega (arith, n, s, shape k (suc q) (omega arith) .count, reach-even k))))
           ∙ ap (λ (x : ℕ). tapSum (taps k x) (λ (t : ℕ). f (w +ℤ pos c +ℤ − b +ℤ pos t))) (sym e)
+          ∙ sym (tapped-is k f p c)
 
 -- ---- both stages, over a mirrored padded reference picture
 

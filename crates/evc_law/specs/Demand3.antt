@@ -4,15 +4,16 @@ use mathlib.Core.Bool.{Bool, true, cond, _&&_}
 use mathlib.Core.List.{List}
 use mathlib.Core.Path.{_≡_}
 use Prim.Native.Nat.{ℕ, _+_, _*_, _-_, _/_, _≤_, _<_}
-use lib.IntN.{ℤ, negℤ}
-use lib.ListN.{length, getD}
+use lib.IntN.{ℤ, pos, negℤ}
+use lib.ListN.{length, getD, replicate}
+use Rattle.evc_int.specs.Whole.{−_}
 use Rattle.evc_def.specs.declared.EvcBlock.{EvcBlock}
 use Rattle.evc_def.specs.declared.EvcMv.{EvcMv}
-use Rattle.evc_plane.specs.Planes.{sideOf, sampleAt, referenceOf}
+use Rattle.evc_plane.specs.Planes.{sideOf, planeLen, sampleAt, referenceOf}
 use Rattle.evc_plane.specs.Padding.{padCode, padAfter}
 use Rattle.evc_clip.specs.Clip.{clippedPlace}
 use Rattle.evc_mc.specs.declared.EvcList.{EvcList}
-use Rattle.evc_mc.specs.Block.{RefPicList, Component, typeOf, planeOf, offsetOf, widthOf, heightOf, predLen, mc2Code, mc2First}
+use Rattle.evc_mc.specs.Block.{RefPicList, refPicList, Component, luma, cb, cr, typeOf, planeOf, offsetOf, widthOf, heightOf, predLen, mc2Code, mc2First}
 use Rattle.evc_law.specs.General.{general}
 
 -- ---- a call and its premises
@@ -58,6 +59,34 @@ Accepted k = code k ≡ 0
 
 abbrev pub sample : Call → Component → ℕ → ℕ → ℕ
 sample k c x y = getD (mc2First (k .block) (k .l0) (k .l1) (k .pred0) (k .pred1)) (offsetOf c + y * widthOf (k .block) c + x) 0
+
+-- ---- the premises can be met, by a call that is accepted
+
+-- a picture with one value at every place
+abbrev pub flatPicture : ℕ → ℕ → ℕ → Picture
+flatPicture W H v c = replicate (planeLen (typeOf c) W H) v
+
+-- a list in use over that picture, padded
+abbrev pub flatList : ℕ → ℕ → ℕ → EvcMv → ℕ → RefPicList
+flatList W H v mv poc =
+    let plane : Component → List ℕ = λ (c : Component). padAfter (typeOf c) W H (flatPicture W H v c) in
+    refPicList (record { used = true; mv = mv; poc = poc }) (plane luma) (plane cb) (plane cr)
+
+-- two lists in use with equal counts, over equal pictures of 16 by 12; one vector is clipped, the other is filtered both ways
+abbrev pub witness : Call
+witness =
+    record {
+      block = record { «pic_w» = 16; «pic_h» = 12; x = 8; y = 4; w = 8; h = 4 };
+      l0 = flatList 16 12 1023 (record { x = − 1000; y = pos 2 }) 7;
+      l1 = flatList 16 12 1023 (record { x = pos 5; y = − 3 }) 7;
+      picture0 = flatPicture 16 12 1023;
+      picture1 = flatPicture 16 12 1023;
+      pred0 = replicate predLen 0;
+      pred1 = replicate predLen 0;
+    }
+
+abbrev pub Witness : Type 0
+Witness = Premises witness × Accepted witness
 
 -- ---- the general filter
 
