@@ -10,7 +10,7 @@ ghost use Rattle.evc_mc.specs.Block.{refPicList, mc2Code, mc2First, mc2Second};
 ghost use Rattle.evc_inter.specs.Kinds.{planeType};
 ghost use Rattle.evc_camera.specs.Camera.{cameraMotion};
 ghost use Rattle.evc_trace.specs.Format.{writeHeaderCode, writeHeaderAfter, writeRecordCode, writeRecordAfter};
-ghost use Rattle.evc_replay.specs.Record.{planes};
+ghost use Rattle.evc_record.specs.Record.{planes};
 ghost use Rattle.evc_replay.specs.Replay.{replayed};
 use evc_camera::EvcCamera;
 use evc_clip::EvcClipped;

@@ -15,8 +15,8 @@ use Rattle.evc_mc.specs.Block.{planesShort}
 use Rattle.evc_util.specs.Units.{mvLen, unitsOf}
 use Rattle.evc_trace.specs.Format.{version, isTrace, headerOf}
 use Rattle.evc_trace.specs.declared.TraceHeader.{TraceHeader}
-use Rattle.evc_replay.specs.Record.{Planes, source}
-use Rattle.evc_replay.specs.Replay.{pictureShort, headerCode, Replayed, recordsFrom, applied, replayed}
+use Rattle.evc_record.specs.Record.{Planes, source, pictureShort}
+use Rattle.evc_replay.specs.Replay.{headerCode, Replayed, recordsFrom, applied, replayed}
 
 -- 4: "every lent plane and map"
 abbrev pub short : TraceHeader → Planes → Planes → Planes → Bool → List ℤ → Bool

@@ -1,4 +1,2 @@
-pub mod Places
-pub mod Steps
 pub mod Records
 pub mod Header

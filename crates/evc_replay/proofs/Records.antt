@@ -7,10 +7,10 @@ use native.Mathlib.Omega.{arith}
 use borrow.Author.Tests.{ne-eqb}
 use lib.Dec.{eqb}
 use lib.ListN.{length, take, drop, length-take, length-drop}
-use Rattle.evc_replay.specs.Record.{Planes, Source, _orElse_, formCode, recordCode, targetAfter}
-use Rattle.evc_replay.specs.Steps.{afterRecord}
+use Rattle.evc_record.specs.Record.{Planes, Source, _orElse_, formCode, recordCode, targetAfter}
+use Rattle.evc_record.specs.Steps.{afterRecord}
 use Rattle.evc_replay.specs.Replay.{Replayed, recordsAt, recordsFrom, applied}
-use Rattle.evc_replay.proofs.Steps.{whole-record}
+use Rattle.evc_record.proofs.Steps.{whole-record}
 
 pub next-record : (s : List ℕ) (at : ℕ) → at < length s → recordsFrom s at ≡ take 22 (drop at s) ∷ recordsFrom s (at + 22)
 unfolding recordsAt

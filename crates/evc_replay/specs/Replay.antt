@@ -8,15 +8,11 @@ use lib.ListN.{length, take, drop}
 use Rattle.evc_def.specs.Blocks.{badPicture}
 use Rattle.evc_def.specs.Codes.{Check, _when_, firstOf}
 use Rattle.evc_util.specs.Units.{mvLen, unitsOf}
-use Rattle.evc_mc.specs.Block.{planesShort}
 use Rattle.evc_trace.specs.Format.{version, headerLen, recordLen, countLen, isTrace, headerOf}
-use Rattle.evc_replay.specs.Record.{Planes, planes, Source, source, stepOf, targetAfter}
+use Rattle.evc_record.specs.Record.{Planes, pictureShort, Source, source, stepOf, targetAfter}
 use Rattle.evc_replay.specs.declared.EvcReplay.{EvcReplay}
 
 -- ---- "Replay refuses, in this order, 11 for an incomplete header, 10 for mark or version, 1 and 4 (every lent plane and map)"
-
-unfoldable pub pictureShort : ℕ → ℕ → Planes → Bool
-pictureShort W H p = planesShort W H (p .y) (p .u) (p .v)
 
 unfoldable pub headerCode : List ℕ → Planes → Planes → Bool → List ℤ → Planes → ℕ
 headerCode s p q has col t =

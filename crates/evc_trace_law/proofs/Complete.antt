@@ -19,7 +19,7 @@ use Rattle.evc_mc.specs.Block.{mc2Code}
 use Rattle.evc_trace.specs.Format.{countLen, recordOf}
 use Rattle.evc_trace.specs.declared.TraceHeader.{TraceHeader}
 use Rattle.evc_trace.specs.declared.EvcTraceRecord.{EvcTraceRecord}
-use Rattle.evc_replay.specs.Record.{Planes, Source, motionOf, _orElse_, formCode, blockCode, recordCode, targetAfter}
+use Rattle.evc_record.specs.Record.{Planes, Source, motionOf, _orElse_, formCode, blockCode, recordCode, targetAfter}
 use Rattle.evc_replay.specs.Replay.{Replayed, headerCode, recordsAt, recordsFrom, applied}
 use Rattle.evc_replay.proofs.Records.{next-record}
 

@@ -14,8 +14,8 @@ use Rattle.evc_def.specs.Codes.{firstOf, blockChecks}
 use Rattle.evc_trace.specs.Bytes.{numberAt}
 use Rattle.evc_trace.specs.Format.{version, countLen, headerLen, isTrace, headerOf}
 use Rattle.evc_trace.specs.declared.TraceHeader.{TraceHeader}
-use Rattle.evc_replay.specs.Record.{Planes, Source, source, recordCode, targetAfter}
-use Rattle.evc_replay.specs.Replay.{pictureShort, headerCode, Replayed, recordsAt, recordsFrom, applied, replayed}
+use Rattle.evc_record.specs.Record.{Planes, Source, source, recordCode, targetAfter, pictureShort}
+use Rattle.evc_replay.specs.Replay.{headerCode, Replayed, recordsAt, recordsFrom, applied, replayed}
 use Rattle.evc_replay.proofs.Header.{code-11}
 use Rattle.evc_replay.proofs.Records.{no-more, ended}
 use Rattle.evc_mc.specs.Block.{Component, luma, cb, cr}

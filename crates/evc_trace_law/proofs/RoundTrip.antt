@@ -16,7 +16,7 @@ use Rattle.evc_trace.specs.Bytes.{bytesOf, numberAt, overwritten, overwrittenBy
 use Rattle.evc_trace.specs.Format.{version, countLen, mark, headerLen, headerBytes, isTrace, headerOf, mvBytes, mvOf, recordLen, recordBytes, recordOf, lastByte, isWellFormed, writeHeaderCode, writeRecordCode}
 use Rattle.evc_trace.specs.declared.TraceHeader.{TraceHeader}
 use Rattle.evc_trace.specs.declared.EvcTraceRecord.{EvcTraceRecord}
-use Rattle.evc_replay.specs.Record.{formCode}
+use Rattle.evc_record.specs.Record.{formCode}
 use Rattle.evc_trace_law.specs.RoundTrip.{HeaderFits, RecordFits, Bytes, HeaderRead, RecordRead, HeaderRewritten, RecordRewritten, HeaderAccepted, RecordAccepted, RecordReturned, RoundTrip}
 use Rattle.evc_trace_law.proofs.Bytes.{length-bytes, pair-read, two, component, part, all-of, join, byte-back, number-back, component-back}
 

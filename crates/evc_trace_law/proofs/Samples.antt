@@ -19,9 +19,9 @@ use Rattle.evc_plane.proofs.Sizes.{sizes, rows}
 use Rattle.evc_mc.specs.Block.{Component, luma, cb, cr, typeOf, widthOf, heightOf}
 use Rattle.evc_mc.proofs.Checks.{accepts, sides}
 use Rattle.evc_trace.specs.Format.{countLen, recordOf}
-use Rattle.evc_replay.specs.Record.{Planes, Source, motion, refList0, refList1, blank, blockOf, formCode, blockCode, recordCode, stepOf, placeIn, withPicture, planeAfter, targetAfter}
+use Rattle.evc_record.specs.Record.{Planes, Source, motion, refList0, refList1, blank, blockOf, formCode, blockCode, recordCode, stepOf, placeIn, withPicture, planeAfter, targetAfter}
 use Rattle.evc_replay.specs.Replay.{Replayed, applied}
-use Rattle.evc_replay.proofs.Places.{halves, picture-length}
+use Rattle.evc_record.proofs.Places.{halves, picture-length}
 use Rattle.evc_replay.proofs.Records.{both-zero}
 use Rattle.evc_trace_law.specs.Replays.{planeIn, OutsideRows, OutsideBlock, OutsidePicture}
 

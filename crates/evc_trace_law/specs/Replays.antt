@@ -11,7 +11,7 @@ use Rattle.evc_def.specs.declared.EvcBlock.{EvcBlock}
 use Rattle.evc_plane.specs.Planes.{sideOf, padOf, originOf, strideOf, planeLen}
 use Rattle.evc_mc.specs.Block.{Component, luma, cb, cr, typeOf, widthOf, heightOf}
 use Rattle.evc_trace.specs.Format.{countLen, headerLen, recordLen, headerOf, recordOf}
-use Rattle.evc_replay.specs.Record.{Planes, blockOf, placeIn}
+use Rattle.evc_record.specs.Record.{Planes, blockOf, placeIn}
 use Rattle.evc_replay.specs.Replay.{Replayed, recordsFrom, replayed}
 
 -- a trace of n records, the last one whole

@@ -12,7 +12,7 @@ use Rattle.evc_trace.specs.Bytes.{overwritten}
 use Rattle.evc_trace.specs.Format.{version, countLen, headerLen, headerBytes, isTrace, headerOf, recordLen, recordBytes, recordOf, lastByte, writeHeaderCode, writeHeaderAfter, writeRecordCode, writeRecordAfter}
 use Rattle.evc_trace.specs.declared.TraceHeader.{TraceHeader}
 use Rattle.evc_trace.specs.declared.EvcTraceRecord.{EvcTraceRecord}
-use Rattle.evc_replay.specs.Record.{formCode}
+use Rattle.evc_record.specs.Record.{formCode}
 
 -- fields that are as wide as their places, n bytes for a count
 pub record HeaderFits (n : ℕ) (h : TraceHeader) : Type 0 where

@@ -3,8 +3,8 @@ use borrow.Author.Needs.{needs}
 use mathlib.Core.Bool.{false}
 use mathlib.Core.Path.{_≡_, sym, subst, _∙_}
 use Rattle.evc_trace.specs.declared.TraceHeader.{TraceHeader}
-use Rattle.evc_replay.specs.Record.{planes}
-use Rattle.evc_replay.specs.Replay.{pictureShort}
+use Rattle.evc_record.specs.Record.{planes, pictureShort}
+use Rattle.evc_replay.specs.Replay.{}
 use Rattle.evc_replay.proofs.Header.{good-header, not-begun, begun}
 use Rattle.evc_replay.proofs.evc_trace_replay.Statement.{statement}
 use Rattle.evc_replay.proofs.evc_trace_replay.Tie as tie

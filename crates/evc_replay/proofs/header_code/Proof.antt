@@ -4,7 +4,7 @@ use mathlib.Core.Bool.{false, not, _&&_, _||_}
 use mathlib.Core.Path.{_≡_, sym, ap, _∙_}
 use Rattle.evc_def.specs.Blocks.{badPicture}
 use Rattle.evc_def.proofs.Blocks.{picture-sides}
-use Rattle.evc_replay.specs.Record.{planes}
+use Rattle.evc_record.specs.Record.{planes}
 use Rattle.evc_replay.proofs.Header.{short, tested, code-11, code-10, code-1, code-4, code-0}
 use Rattle.evc_replay.proofs.header_code.Statement.{statement}
 use Rattle.evc_replay.proofs.header_code.Tie as tie

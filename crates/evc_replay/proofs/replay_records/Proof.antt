@@ -5,9 +5,9 @@ use Prim.Native.Nat.{ℕ, _+_, _-_, _<_, _≤_}
 use native.Mathlib.Omega.{arith}
 use borrow.Author.Needs.{needs}
 use lib.ListN.{length}
-use Rattle.evc_replay.specs.Record.{planes, source, recordCode}
+use Rattle.evc_record.specs.Record.{planes, source, recordCode}
 use Rattle.evc_replay.specs.Replay.{recordsFrom, applied}
-use Rattle.evc_replay.proofs.Places.{still-long}
+use Rattle.evc_record.proofs.Places.{still-long}
 use Rattle.evc_replay.proofs.Records.{complete, went-on, stopped, ended}
 use Rattle.evc_replay.proofs.replay_records.Statement.{statement}
 use Rattle.evc_replay.proofs.replay_records.Tie as tie

@@ -11,9 +11,9 @@ use Rattle.evc_util.specs.declared.EvcDirect.{EvcDirect}
 use Rattle.evc_util.specs.declared.Pocs.{Pocs}
 use Rattle.evc_trace.specs.declared.TraceHeader.{TraceHeader}
 use Rattle.evc_trace.specs.declared.EvcTraceRecord.{EvcTraceRecord}
-use Rattle.evc_replay.specs.Record.{blockOf, pocsOf, motionOf}
-use Rattle.evc_replay.proofs.motion.Statement.{statement}
-use Rattle.evc_replay.proofs.motion.Tie as tie
+use Rattle.evc_record.specs.Record.{blockOf, pocsOf, motionOf}
+use Rattle.evc_record.proofs.motion.Statement.{statement}
+use Rattle.evc_record.proofs.motion.Tie as tie
 
 module _ (h : TraceHeader) (has : Bool) (col : List ℤ) (r : EvcTraceRecord) where
   of-kind-3 : (b : EvcBlock) (p : Pocs) (m : EvcDirect) → r .kind ≡ 3 → b ≡ blockOf h r → p ≡ pocsOf h r → m ≡ getMvDir b p has col → m ≡ motionOf h has col r

@@ -1,9 +1,9 @@
 -- `evc_replay::predict_record` meets its contract. Assumes nothing.
 use borrow.Author.Needs.{needs}
 use mathlib.Core.Path.{_≡_}
-use Rattle.evc_replay.proofs.Steps.{predicted}
-use Rattle.evc_replay.proofs.predict_record.Statement.{statement}
-use Rattle.evc_replay.proofs.predict_record.Tie as tie
+use Rattle.evc_record.proofs.Steps.{predicted}
+use Rattle.evc_record.proofs.predict_record.Statement.{statement}
+use Rattle.evc_record.proofs.predict_record.Tie as tie
 
 block-of-requires : tie.Need-block-of-requires
 block-of-requires c κs = search needs

@@ -9,9 +9,9 @@ use lib.Dec.{eqb}
 use lib.ListN.{length, getD}
 use Rattle.evc_def.proofs.Codes.{refused, passed, none}
 use Rattle.evc_trace.specs.Format.{isWellFormed, recordOf}
-use Rattle.evc_replay.specs.Record.{formCode}
-use Rattle.evc_replay.proofs.form_code.Statement.{statement}
-use Rattle.evc_replay.proofs.form_code.Tie as tie
+use Rattle.evc_record.specs.Record.{formCode}
+use Rattle.evc_record.proofs.form_code.Statement.{statement}
+use Rattle.evc_record.proofs.form_code.Tie as tie
 
 module _ (s : List ℕ) where
   code-11 : length s < 22 → 11 ≡ formCode s

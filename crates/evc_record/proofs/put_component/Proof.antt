@@ -7,9 +7,9 @@ use native.Mathlib.Omega.{arith}
 use lib.ListN.{length}
 use Rattle.evc_plane.specs.Planes.{sideOf}
 use Rattle.evc_mc.proofs.Checks.{sides}
-use Rattle.evc_replay.proofs.Places.{column-small, row-small, row-width, block-within, block-placed}
-use Rattle.evc_replay.proofs.put_component.Statement.{statement}
-use Rattle.evc_replay.proofs.put_component.Tie as tie
+use Rattle.evc_record.proofs.Places.{column-small, row-small, row-width, block-within, block-placed}
+use Rattle.evc_record.proofs.put_component.Statement.{statement}
+use Rattle.evc_record.proofs.put_component.Tie as tie
 
 abbrev start : tie.After-struct-known3 → tie.Start
 start c = c .before .before .before .before .before .before .before .before .before .before .before

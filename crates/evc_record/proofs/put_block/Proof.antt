@@ -3,10 +3,10 @@ use borrow.Author.Needs.{needs}
 use mathlib.Core.Path.{_≡_, refl}
 use native.Mathlib.Omega.{arith}
 use Rattle.evc_mc.specs.Block.{luma, cb, cr}
-use Rattle.evc_replay.specs.Record.{planes}
-use Rattle.evc_replay.proofs.Places.{long-enough, component-in, component-put}
-use Rattle.evc_replay.proofs.put_block.Statement.{statement}
-use Rattle.evc_replay.proofs.put_block.Tie as tie
+use Rattle.evc_record.specs.Record.{planes}
+use Rattle.evc_record.proofs.Places.{long-enough, component-in, component-put}
+use Rattle.evc_record.proofs.put_block.Statement.{statement}
+use Rattle.evc_record.proofs.put_block.Tie as tie
 
 cu-dim-offset-requires : tie.Need-cu-dim-offset-requires
 cu-dim-offset-requires c κs = search needs

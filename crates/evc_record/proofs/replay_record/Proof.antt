@@ -7,11 +7,11 @@ use native.Mathlib.Omega.{arith}
 use Rattle.evc_def.specs.Codes.{firstOf, blockChecks}
 use Rattle.evc_def.specs.declared.EvcBlock.{EvcBlock}
 use Rattle.evc_mc.specs.Block.{luma, cb, cr}
-use Rattle.evc_replay.specs.Record.{planes}
-use Rattle.evc_replay.specs.Replay.{pictureShort}
-use Rattle.evc_replay.proofs.Steps.{code-form, kept, whole-record, code-motion, code-block, good-block, one-plane, all-planes}
-use Rattle.evc_replay.proofs.replay_record.Statement.{statement}
-use Rattle.evc_replay.proofs.replay_record.Tie as tie
+use Rattle.evc_record.specs.Record.{planes}
+use Rattle.evc_record.specs.Record.{pictureShort}
+use Rattle.evc_record.proofs.Steps.{code-form, kept, whole-record, code-motion, code-block, good-block, one-plane, all-planes}
+use Rattle.evc_record.proofs.replay_record.Statement.{statement}
+use Rattle.evc_record.proofs.replay_record.Tie as tie
 
 form-code-requires : tie.Need-form-code-requires
 form-code-requires c κs = search needs

@@ -3,7 +3,7 @@ use mathlib.Core.Bool.{cond}
 use mathlib.Core.List.{List}
 use Prim.Native.Nat.{ℕ}
 use lib.Dec.{eqb}
-use Rattle.evc_replay.specs.Record.{Planes, Source, stepOf, targetAfter}
+use Rattle.evc_record.specs.Record.{Planes, Source, stepOf, targetAfter}
 
 -- the target after a record: as it was, if the record is refused
 unfoldable pub afterRecord : Source → List ℕ → Planes → Planes

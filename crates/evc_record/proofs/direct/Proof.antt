@@ -2,8 +2,8 @@
 use mathlib.Core.Path.{sym, _∙_}
 use borrow.Author.Needs.{needs}
 use Rattle.evc_util.proofs.Direct.{refusal, done}
-use Rattle.evc_replay.proofs.direct.Statement.{statement}
-use Rattle.evc_replay.proofs.direct.Tie as tie
+use Rattle.evc_record.proofs.direct.Statement.{statement}
+use Rattle.evc_record.proofs.direct.Tie as tie
 
 returns : tie.Need-returns
 returns c =

@@ -5,9 +5,9 @@ use native.Mathlib.Omega.{arith}
 use lib.ListN.{length, length-drop, getD}
 use Rattle.evc_int.specs.Lists.{withBlock}
 use Rattle.evc_int.proofs.Lists.{row-fits, block-step, block-done}
-use Rattle.evc_replay.proofs.Places.{row-copied}
-use Rattle.evc_replay.proofs.copy_block.Statement.{statement}
-use Rattle.evc_replay.proofs.copy_block.Tie as tie
+use Rattle.evc_record.proofs.Places.{row-copied}
+use Rattle.evc_record.proofs.copy_block.Statement.{statement}
+use Rattle.evc_record.proofs.copy_block.Tie as tie
 
 abbrev Inv-loop : tie.InvT-loop
 Inv-loop s at w h d₀ to stride y₀ d y = (y ≤ h) × (length d ≡ length d₀) × (d ≡ withBlock d₀ to stride w y (λ (i x : ℕ). getD s (at + i * w + x) 0))

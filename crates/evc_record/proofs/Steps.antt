@@ -19,9 +19,9 @@ use Rattle.evc_mc.proofs.Samples.{samples-at}
 use Rattle.evc_trace.specs.Format.{countLen, recordOf}
 use Rattle.evc_trace.specs.declared.TraceHeader.{TraceHeader}
 use Rattle.evc_trace.specs.declared.EvcTraceRecord.{EvcTraceRecord}
-use Rattle.evc_replay.specs.Record.{Planes, planes, Source, source, blockOf, motionOf, list0Of, list1Of, withPlanes, blank, formCode, blockCode, recordCode, withPicture, planeAfter, targetAfter}
-use Rattle.evc_replay.specs.Steps.{afterRecord}
-use Rattle.evc_replay.proofs.Places.{picture-ext}
+use Rattle.evc_record.specs.Record.{Planes, planes, Source, source, blockOf, motionOf, list0Of, list1Of, withPlanes, blank, formCode, blockCode, recordCode, withPicture, planeAfter, targetAfter}
+use Rattle.evc_record.specs.Steps.{afterRecord}
+use Rattle.evc_record.proofs.Places.{picture-ext}
 
 module _ (b : EvcBlock) (l m : RefPicList) (p q : List ℕ) (ep : length p ≡ predLen) (eq : length q ≡ predLen) where
   -- the number depends on the lengths of the two blocks alone

@@ -15,7 +15,7 @@ use Rattle.evc_util.specs.Direct.{getMvDir}
 use Rattle.evc_util.specs.declared.EvcDirect.{EvcDirect}
 use Rattle.evc_util.specs.declared.Pocs.{Pocs}
 use Rattle.evc_clip.specs.Clip.{clipMv}
-use Rattle.evc_mc.specs.Block.{RefPicList, Component, luma, cb, cr, typeOf, widthOf, heightOf, firstSample, predLen, mc2Code}
+use Rattle.evc_mc.specs.Block.{RefPicList, Component, luma, cb, cr, typeOf, widthOf, heightOf, firstSample, predLen, planesShort, mc2Code}
 use Rattle.evc_mc.specs.declared.EvcList.{EvcList}
 use Rattle.evc_trace.specs.Format.{recordLen, countLen, recordOf, lastByte, isWellFormed}
 use Rattle.evc_trace.specs.declared.TraceHeader.{TraceHeader}
@@ -29,6 +29,10 @@ pub record Planes : Type 0 where
 
 abbrev pub planes : List ℕ → List ℕ → List ℕ → Planes
 planes y u v = record { y = y; u = u; v = v }
+
+-- 4: "every lent plane"
+unfoldable pub pictureShort : ℕ → ℕ → Planes → Bool
+pictureShort W H p = planesShort W H (p .y) (p .u) (p .v)
 
 -- what every record is replayed from: the header, "two lent references and the collocated motion map or none"
 pub record Source : Type 0 where

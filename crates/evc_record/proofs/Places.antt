@@ -27,8 +27,8 @@ use Rattle.evc_filter.specs.Code.{isRowWidth}
 use Rattle.evc_interp.proofs.Windows.{side}
 use Rattle.evc_mc.proofs.Checks.{sides, plane-side}
 use Rattle.evc_mc.proofs.Samples.{component-room, component-end}
-use Rattle.evc_replay.specs.Record.{Planes, placeIn, withPicture}
-use Rattle.evc_replay.specs.Replay.{pictureShort}
+use Rattle.evc_record.specs.Record.{Planes, placeIn, withPicture}
+use Rattle.evc_record.specs.Record.{pictureShort}
 
 pub halves : (t : PlaneType) (size place side : ℕ) → place + side ≤ size → sideOf t place + sideOf t side ≤ sideOf t size
 halves Y size place side h = h
