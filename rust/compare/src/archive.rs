@@ -1,195 +1,9 @@
-//! The calls of the archive, as include/evc_inter.h has them.
+//! The calls of the archive on the oracle's types, by the declarations of evc-inter.
 
+use evc_inter::{ffi, EvcBlock, EvcCandidates, EvcList, EvcMv, EvcTraceRecord};
 use oracle::model::camera::Camera;
 use oracle::model::trace::{Lent, Record, Replay};
 use oracle::model::{Block, Collocated, List, Mv, OnePlane, Pocs};
-
-#[repr(C)]
-#[derive(Clone, Copy)]
-struct EvcMv {
-    x: i16,
-    y: i16,
-}
-
-#[repr(C)]
-struct EvcBlock {
-    pic_w: u32,
-    pic_h: u32,
-    x: u32,
-    y: u32,
-    w: u32,
-    h: u32,
-}
-
-#[repr(C)]
-struct EvcList {
-    used: bool,
-    mv: EvcMv,
-    poc: u32,
-}
-
-#[repr(C)]
-struct EvcAvail {
-    code: u32,
-    avail: u16,
-}
-
-#[repr(C)]
-struct EvcClipped {
-    code: u32,
-    mv: EvcMv,
-}
-
-#[repr(C)]
-struct EvcDirect {
-    code: u32,
-    mv0: EvcMv,
-    mv1: EvcMv,
-}
-
-#[repr(C)]
-struct EvcTraceRecord {
-    x: u16,
-    y: u16,
-    w: u16,
-    h: u16,
-    kind: u8,
-    mv0: EvcMv,
-    mv1: EvcMv,
-    poc0: u16,
-    poc1: u16,
-}
-
-#[repr(C)]
-struct EvcReplay {
-    code: u32,
-    index: u64,
-}
-
-#[repr(C)]
-struct EvcCamera {
-    code: u32,
-    kind: u32,
-    x: f64,
-    y: f64,
-}
-
-/// left, up, up_right, collocated
-#[repr(C)]
-#[derive(Clone, Copy, Debug, PartialEq)]
-pub struct EvcCandidates {
-    pub mv: [[i16; 2]; 4],
-    pub refi: [i8; 4],
-}
-
-extern "C" {
-    fn evc_pad(chroma: bool, pic_w: u32, pic_h: u32, plane: *mut u16, plane_len: usize) -> u32;
-    fn evc_get_avail_inter(block: EvcBlock, map_scu: *const u32, map_scu_len: usize) -> EvcAvail;
-    fn evc_get_motion(
-        block: EvcBlock,
-        lidx: u32,
-        avail: u16,
-        map_mv: *const i16,
-        map_mv_len: usize,
-        has_col: bool,
-        col_mv: *const i16,
-        col_mv_len: usize,
-        cand: *mut EvcCandidates,
-    ) -> u32;
-    fn evc_get_mv_dir(
-        block: EvcBlock,
-        poc: u32,
-        poc0: u32,
-        poc1: u32,
-        list_poc0: u32,
-        has_col: bool,
-        col_mv: *const i16,
-        col_mv_len: usize,
-    ) -> EvcDirect;
-    fn evc_mv_clip(block: EvcBlock, mv: EvcMv) -> EvcClipped;
-    fn evc_mc_plane(
-        chroma: bool,
-        pic_w: u32,
-        pic_h: u32,
-        ori_mv: EvcMv,
-        gmv: EvcMv,
-        w: u32,
-        h: u32,
-        plane: *const u16,
-        plane_len: usize,
-        pred: *mut u16,
-        pred_len: usize,
-    ) -> u32;
-    fn evc_mc2(
-        block: EvcBlock,
-        list0: EvcList,
-        y0: *const u16,
-        y0_len: usize,
-        u0: *const u16,
-        u0_len: usize,
-        v0: *const u16,
-        v0_len: usize,
-        list1: EvcList,
-        y1: *const u16,
-        y1_len: usize,
-        u1: *const u16,
-        u1_len: usize,
-        v1: *const u16,
-        v1_len: usize,
-        pred0: *mut u16,
-        pred0_len: usize,
-        pred1: *mut u16,
-        pred1_len: usize,
-    ) -> u32;
-    fn evc_trace_write_header(
-        pic_w: u32,
-        pic_h: u32,
-        poc: u16,
-        list_poc0: u16,
-        out: *mut u8,
-        out_len: usize,
-    ) -> u32;
-    fn evc_trace_write_record(
-        pic_w: u32,
-        pic_h: u32,
-        record: EvcTraceRecord,
-        out: *mut u8,
-        out_len: usize,
-    ) -> u32;
-    fn evc_trace_replay(
-        trace: *const u8,
-        trace_len: usize,
-        y0: *const u16,
-        y0_len: usize,
-        u0: *const u16,
-        u0_len: usize,
-        v0: *const u16,
-        v0_len: usize,
-        y1: *const u16,
-        y1_len: usize,
-        u1: *const u16,
-        u1_len: usize,
-        v1: *const u16,
-        v1_len: usize,
-        has_col: bool,
-        col_mv: *const i16,
-        col_mv_len: usize,
-        y: *mut u16,
-        y_len: usize,
-        u: *mut u16,
-        u_len: usize,
-        v: *mut u16,
-        v_len: usize,
-    ) -> EvcReplay;
-    fn evc_camera_motion(
-        pic_w: u32,
-        pic_h: u32,
-        map_mv: *const i16,
-        map_mv_len: usize,
-        map_scu: *const u32,
-        map_scu_len: usize,
-    ) -> EvcCamera;
-}
 
 /// Whoever is compared: the archive, or a faulty one in a test.
 pub trait Calls {
@@ -258,11 +72,11 @@ fn pointer_mut<T>(buffer: &mut [T]) -> *mut T {
 // SAFETY, of all calls below: every pointer goes with the length of its slice.
 impl Calls for Archive {
     fn pad(&self, chroma: bool, [pic_w, pic_h]: [u32; 2], plane: &mut [u16]) -> u32 {
-        unsafe { evc_pad(chroma, pic_w, pic_h, pointer_mut(plane), plane.len()) }
+        unsafe { ffi::evc_pad(chroma, pic_w, pic_h, pointer_mut(plane), plane.len()) }
     }
 
     fn get_avail_inter(&self, b: &Block, words: &[u32]) -> (u32, u16) {
-        let r = unsafe { evc_get_avail_inter(block(b), pointer(words), words.len()) };
+        let r = unsafe { ffi::evc_get_avail_inter(block(b), pointer(words), words.len()) };
         (r.code, r.avail)
     }
 
@@ -279,7 +93,7 @@ impl Calls for Archive {
         let (col_mv, col_len) = (pointer(col.map), col.map.len());
         let has_col = col.is_present;
         unsafe {
-            evc_get_motion(
+            ffi::evc_get_motion(
                 block(b),
                 lidx,
                 avail,
@@ -297,7 +111,7 @@ impl Calls for Archive {
         let (col_mv, col_len) = (pointer(col.map), col.map.len());
         let has_col = col.is_present;
         let r = unsafe {
-            evc_get_mv_dir(
+            ffi::evc_get_mv_dir(
                 block(b),
                 p.poc,
                 p.poc0,
@@ -312,14 +126,14 @@ impl Calls for Archive {
     }
 
     fn mv_clip(&self, b: &Block, mv: Mv) -> (u32, Mv) {
-        let r = unsafe { evc_mv_clip(block(b), vector(mv)) };
+        let r = unsafe { ffi::evc_mv_clip(block(b), vector(mv)) };
         (r.code, pair(r.mv))
     }
 
     fn mc_plane(&self, c: &OnePlane, plane: &[u16], pred: &mut [u16]) -> u32 {
         let ([pic_w, pic_h], [w, h]) = (c.pic, c.side);
         unsafe {
-            evc_mc_plane(
+            ffi::evc_mc_plane(
                 c.chroma,
                 pic_w,
                 pic_h,
@@ -343,7 +157,7 @@ impl Calls for Archive {
         });
         let [[y0, u0, v0], [y1, u1, v1]] = lists.each_ref().map(|l| l.planes);
         unsafe {
-            evc_mc2(
+            ffi::evc_mc2(
                 block(b),
                 list0,
                 pointer(y0),
@@ -375,7 +189,7 @@ impl Calls for Archive {
         out: &mut [u8],
     ) -> u32 {
         let (at, len) = (pointer_mut(out), out.len());
-        unsafe { evc_trace_write_header(pic_w, pic_h, poc, list_poc0, at, len) }
+        unsafe { ffi::evc_trace_write_header(pic_w, pic_h, poc, list_poc0, at, len) }
     }
 
     fn write_record(&self, [pic_w, pic_h]: [u32; 2], r: &Record, out: &mut [u8]) -> u32 {
@@ -398,14 +212,14 @@ impl Calls for Archive {
             poc0,
             poc1,
         };
-        unsafe { evc_trace_write_record(pic_w, pic_h, record, pointer_mut(out), out.len()) }
+        unsafe { ffi::evc_trace_write_record(pic_w, pic_h, record, pointer_mut(out), out.len()) }
     }
 
     fn replay(&self, lent: Lent, target: [&mut [u16]; 3]) -> Replay {
         let [[y0, u0, v0], [y1, u1, v1]] = lent.planes;
         let [y, u, v] = target;
-        let EvcReplay { code, index } = unsafe {
-            evc_trace_replay(
+        let ffi::EvcReplay { code, index } = unsafe {
+            ffi::evc_trace_replay(
                 pointer(lent.trace),
                 lent.trace.len(),
                 pointer(y0),
@@ -437,7 +251,7 @@ impl Calls for Archive {
     fn camera_motion(&self, [pic_w, pic_h]: [u32; 2], map: &[i16], words: &[u32]) -> Camera {
         let (map_mv, len) = (pointer(map), map.len());
         let (map_scu, words_len) = (pointer(words), words.len());
-        let r = unsafe { evc_camera_motion(pic_w, pic_h, map_mv, len, map_scu, words_len) };
+        let r = unsafe { ffi::evc_camera_motion(pic_w, pic_h, map_mv, len, map_scu, words_len) };
         Camera {
             code: r.code,
             kind: r.kind,

@@ -1,6 +1,6 @@
 //! The comparison notices faults and makes their cases small: the archive's calls, each time with one fault.
 
-use crate::archive::{Archive, Calls, EvcCandidates};
+use crate::archive::{Archive, Calls};
 use crate::cases::block::Blocks;
 use crate::cases::camera::Cameras;
 use crate::cases::clipping::Clipping;
@@ -15,6 +15,7 @@ use crate::cases::{Case, BATCH};
 use crate::lent::units;
 use crate::run::{self, Run};
 use crate::sys::{End, ALARM};
+use evc_inter::EvcCandidates;
 use oracle::model::camera::{is_counted, Camera, MOVING, STILL};
 use oracle::model::trace::{self, Header, Record, Replay, HEADER_LEN, RECORD_LEN};
 use oracle::model::{self, Block, Collocated, List, Mv, OnePlane, Pocs, PRED_LEN};

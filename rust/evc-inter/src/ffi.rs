@@ -1,4 +1,5 @@
-//! include/evc_inter.h, declaration for declaration.
+//! include/evc_inter.h, declaration for declaration: the only one in Rust. The structs that a caller
+//! fills or reads are in types.rs.
 
 use crate::{EvcBlock, EvcCandidates, EvcList, EvcMv, EvcTraceRecord};
 

@@ -33,7 +33,7 @@
 mod calls;
 mod camera;
 mod cu;
-#[doc(hidden)] // for the benchmark, which converts nothing
+#[doc(hidden)] // for comparison and benchmark, which need the calls as C has them
 pub mod ffi;
 mod plane;
 mod refusal;

@@ -29,7 +29,7 @@ fn assert_padded(r: Padding) {
     let mut by_the_document = before;
     let pic = [r.pic_w as u32, r.pic_h as u32];
     assert_eq!(model::pad(r.chroma, pic, &mut by_the_document), 0, "{r:?}");
-    assert!(by_the_document == after, "{r:?}");
+    assert!(by_the_document == after, "{:?}", r);
 }
 
 /// Every allowed side up to 36, both ways, and some larger ones.

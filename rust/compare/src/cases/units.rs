@@ -1,11 +1,11 @@
 //! `evc_get_avail_inter`, `evc_get_motion` and `evc_get_mv_dir`.
 
 use super::*;
-use crate::archive::EvcCandidates;
 use crate::guard::{Guarded, PRESSES};
 use crate::lent::{Motion, Slot, Words};
 use crate::numbers::{block, count, one_in, wild, Length};
 use crate::numbers::{smaller_blocks, smaller_number, smaller_spare};
+use evc_inter::{EvcCandidates, EvcMv};
 use oracle::model::{self, Block, Candidates, Collocated, Pocs};
 
 /// Smaller blocks, each with the picture that a buffer was made for, which goes along with the block's.
@@ -94,7 +94,7 @@ pub struct Motions {
     has_col: bool,
     col: Motion,
     col_length: Length,
-    old: EvcCandidates,
+    old: Candidates,
 }
 
 #[derive(Default)]
@@ -104,9 +104,21 @@ pub struct Lent {
     cand: Guarded<EvcCandidates>,
 }
 
+fn record(c: Candidates) -> EvcCandidates {
+    let [left, up, up_right, collocated] = c.mv.map(|[x, y]| EvcMv { x, y });
+    let refi = c.refi;
+    EvcCandidates {
+        left,
+        up,
+        up_right,
+        collocated,
+        refi,
+    }
+}
+
 fn candidates(c: EvcCandidates) -> Candidates {
     Candidates {
-        mv: c.mv,
+        mv: [c.left, c.up, c.up_right, c.collocated].map(|mv| [mv.x, mv.y]),
         refi: c.refi,
     }
 }
@@ -150,7 +162,7 @@ impl Case for Motions {
                     true => Length::random(rng),
                     false => Length::Empty,
                 },
-                old: EvcCandidates {
+                old: Candidates {
                     mv: [(); 4].map(|_| [(); 2].map(|_| rng.below(65536) as u16 as i16)),
                     refi: [(); 4].map(|_| rng.below(256) as u8 as i8),
                 },
@@ -169,8 +181,8 @@ impl Case for Motions {
                 is_present: self.has_col,
                 map: lent.col.lend(press, self.col_length),
             };
-            let cand = &mut lent.cand.lend_mut(press, &[self.old])[0];
-            let (b, lidx, avail, old) = (&self.b, self.lidx, self.avail, candidates(self.old));
+            let cand = &mut lent.cand.lend_mut(press, &[record(self.old)])[0];
+            let (b, lidx, avail, old) = (&self.b, self.lidx, self.avail, self.old);
             let want = model::candidates(b, lidx, avail, map, col, old);
             let got = calls.get_motion(b, lidx, avail, map, col, cand);
             assert_same("code and record", (got, candidates(*cand)), want)?;
