@@ -1,4 +1,4 @@
-//! Tables, for a terminal or for docs/SPEED.md, and the targets.
+//! Tables, for a terminal or for docs/SPEED-TABLES.md, and the targets.
 
 /// A ratio that is not to be exceeded.
 pub struct Target {
@@ -144,7 +144,7 @@ impl Report {
 }
 
 fn markdown(title: &str, head: &[&str], rows: &[Vec<String>]) -> String {
-    let mut text = format!("### {title}\n\n| {} |\n|---|", head.join(" | "));
+    let mut text = format!("## {title}\n\n| {} |\n|---|", head.join(" | "));
     text += &"---:|".repeat(head.len() - 1);
     for row in rows {
         text += &format!("\n| {} |", row.join(" | "));
