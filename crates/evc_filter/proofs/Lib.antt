@@ -1,3 +1,3 @@
-pub mod Lanes
+pub mod Tables
 pub mod Sums
 pub mod Laws

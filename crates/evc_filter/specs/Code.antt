@@ -1,61 +1,44 @@
 -- What the code computes, in 16 bits. Both filters have the shape  a p − b q + 2 c x + 2 d y : luma's outer pair of samples is p and its inner pair q;
 -- chroma's outer pair is q, and its a is 0. A bias keeps every sum from falling below 0, and is taken off at the end.
-use mathlib.Core.Bool.{Bool, _&&_, _||_}
-use Prim.Native.Nat.{ℕ, _+_, _-_, _*_, _/_, _%_, _≤_, min}
-use lib.Dec.{eqb, leb}
-use mathlib.Core.List.{List, [], _∷_}
-use lib.ListN.{getD}
+use Prim.Native.Nat.{ℕ, _+_, _-_, _*_, _/_, _%_, _<_, _≤_, min}
+use mathlib.Core.List.{List, []}
+use lib.IntN.{ℤ, pos}
+use lib.ListN.{length, getD}
+use Rattle.evc_int.specs.Whole.{_⁺, _⁻}
 use Rattle.evc_plane.specs.declared.PlaneType.{PlaneType}
 use Rattle.evc_plane.specs.declared.PlaneType.the-variants.{Y, UV}
+use Rattle.evc_filter.specs.Filter.{table}
 use Rattle.evc_filter.specs.declared.Offsets.{Offsets}
 use Rattle.evc_filter.specs.declared.Taps.{Taps}
 
--- the sizes of the taps, by phase
-abbrev sizes : ℕ → ℕ → ℕ → ℕ → Taps
-sizes a b c d = record { a = a; b = b; c = c; d = d }
+-- the sizes of the taps in a row of the document's table: of the outer pair, of the inner pair, which is taken off, and half of each middle one
+abbrev pub tapsIn : PlaneType → List ℤ → Taps
+tapsIn Y row = record { a = getD row 0 (pos 0) ⁺; b = getD row 1 (pos 0) ⁻; c = getD row 2 (pos 0) ⁺ / 2; d = getD row 3 (pos 0) ⁺ / 2 }
+tapsIn UV row = record { a = 0; b = getD row 0 (pos 0) ⁻; c = getD row 1 (pos 0) ⁺ / 2; d = getD row 2 (pos 0) ⁺ / 2 }
 
-abbrev pub tapsOf : PlaneType → ℕ → Taps
-tapsOf Y phase =
-    getD
-    (sizes 0 0 32 0
-    ∷ sizes 1 5 26 10
-    ∷ sizes 2 10 20 20
-    ∷ sizes 1 5 10 26
-    ∷ [])
-    phase (sizes 0 0 0 0)
-tapsOf UV phase =
-    getD
-    (sizes 0 0 32 0
-    ∷ sizes 0 2 29 5
-    ∷ sizes 0 4 26 10
-    ∷ sizes 0 6 23 15
-    ∷ sizes 0 8 20 20
-    ∷ sizes 0 6 15 23
-    ∷ sizes 0 4 10 26
-    ∷ sizes 0 2 5 29
-    ∷ [])
-    phase (sizes 0 0 0 0)
+unfoldable pub tapsOf : PlaneType → ℕ → Taps
+tapsOf t phase = tapsIn t (getD (table t) phase [])
 
 -- taps for which no sum of 16 bits wraps
-pub record Small (t : Taps) : Type 0 where
-  pub a-small : t .a ≤ 2
-  pub b-small : t .b ≤ 10
-  pub c-small : t .c ≤ 32
-  pub d-small : t .d ≤ 29
-  pub both-small : t .c + t .d ≤ 40
+pub record Small (taps : Taps) : Type 0 where
+  pub a-small : taps .a ≤ 2
+  pub b-small : taps .b ≤ 10
+  pub c-small : taps .c ≤ 32
+  pub d-small : taps .d ≤ 29
+  pub both-small : taps .c + taps .d ≤ 40
 
--- a quarter of the sum, 5120 more
-abbrev pub quarterSum : Taps → ℕ → ℕ → ℕ → ℕ → ℕ
-quarterSum t p q x y = ((t .a * p + 20480 - t .b * q) / 2 + t .c * x + t .d * y) / 2
+-- the first of two stages, and a single direction: a quarter of the sum, 5120 more
+abbrev pub firstSum : Taps → ℕ → ℕ → ℕ → ℕ → ℕ
+firstSum taps p q x y = ((taps .a * p + 20480 - taps .b * q) / 2 + taps .c * x + taps .d * y) / 2
 
 -- the whole sum, with a bias
 abbrev pub wholeSum : Taps → ℕ → ℕ → ℕ → ℕ → ℕ → ℕ
-wholeSum t p q x y bias = t .a * p + 2 * (t .c * x) + 2 * (t .d * y) + bias - t .b * q
+wholeSum taps p q x y bias = taps .a * p + 2 * (taps .c * x) + 2 * (taps .d * y) + bias - taps .b * q
 
--- the second stage: the sum of what lies above 6 bits of each number, and of what lies below, put together
-abbrev pub splitSum : Taps → ℕ → ℕ → ℕ → ℕ → ℕ
-splitSum t p q x y =
-    wholeSum t (p / 64) (q / 64) (x / 64) (y / 64) 8310 + wholeSum t (p % 64) (q % 64) (x % 64) (y % 64) 1152 / 64
+-- the second of two stages: the sum of what lies above 6 bits of each number, and of what lies below, put together
+abbrev pub secondSum : Taps → ℕ → ℕ → ℕ → ℕ → ℕ
+secondSum taps p q x y =
+    wholeSum taps (p / 64) (q / 64) (x / 64) (y / 64) 8310 + wholeSum taps (p % 64) (q % 64) (x % 64) (y % 64) 1152 / 64
 
 -- rounded, the bias taken off, held to 0..1023
 abbrev pub finished : ℕ → ℕ → ℕ
@@ -82,19 +65,22 @@ pub record Bounded (most : ℕ) (s : List ℕ) (at : ℕ) (o : Offsets) : Type 0
   pub x-most : getD s (at + o .x) 0 ≤ most
   pub y-most : getD s (at + o .y) 0 ≤ most
 
-abbrev underTaps : (Taps → ℕ → ℕ → ℕ → ℕ → ℕ) → List ℕ → ℕ → Offsets → Taps → ℕ
-underTaps sum s at o t = sum t (getD s at 0 + getD s (at + o .p1) 0) (getD s (at + o .q0) 0 + getD s (at + o .q1) 0) (getD s (at + o .x) 0) (getD s (at + o .y) 0)
+-- what a sum asks
+pub record Under (most : ℕ) (s : List ℕ) (at : ℕ) (o : Offsets) (taps : Taps) : Type 0 where
+  pub within : at + o .p1 < length s
+  pub ordered : Ordered o
+  pub small : Small taps
+  pub bounded : Bounded most s at o
 
--- the first of two stages, one direction, and the second of two stages
-unfoldable pub quarterAt : List ℕ → ℕ → Offsets → Taps → ℕ
-quarterAt s at o t = underTaps quarterSum s at o t
+abbrev sumAt : (Taps → ℕ → ℕ → ℕ → ℕ → ℕ) → List ℕ → ℕ → Offsets → Taps → ℕ
+sumAt sum s at o taps = sum taps (getD s at 0 + getD s (at + o .p1) 0) (getD s (at + o .q0) 0 + getD s (at + o .q1) 0) (getD s (at + o .x) 0) (getD s (at + o .y) 0)
 
-unfoldable pub oneAt : List ℕ → ℕ → Offsets → Taps → ℕ
-oneAt s at o t = finished 320 (quarterAt s at o t + 8)
+-- the first of two stages, a single direction, and the second of two stages
+unfoldable pub firstAt : List ℕ → ℕ → Offsets → Taps → ℕ
+firstAt s at o taps = sumAt firstSum s at o taps
 
-unfoldable pub splitAt : List ℕ → ℕ → Offsets → Taps → ℕ
-splitAt s at o t = finished 840 (underTaps splitSum s at o t)
+unfoldable pub singleAt : List ℕ → ℕ → Offsets → Taps → ℕ
+singleAt s at o taps = finished 320 (firstAt s at o taps + 8)
 
--- a block that the code can do: by columns of eight, or 4 or 2 wide
-abbrev pub isRowWidth : ℕ → Bool
-isRowWidth n = eqb n 2 || eqb n 4 || (leb 8 n && eqb (n % 8) 0)
+unfoldable pub secondAt : List ℕ → ℕ → Offsets → Taps → ℕ
+secondAt s at o taps = finished 840 (sumAt secondSum s at o taps)

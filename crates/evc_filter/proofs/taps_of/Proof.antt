@@ -13,11 +13,11 @@ use Rattle.evc_filter.specs.Code.{tapsOf}
 use Rattle.evc_filter.proofs.taps_of.Statement.{statement}
 use Rattle.evc_filter.proofs.taps_of.Tie as tie
 
-few : (k : PlaneType) → phases k < 9
+few : (t : PlaneType) → phases t < 9
 few Y = omega arith
 few UV = omega arith
 
-row-is : (k : PlaneType) (n f : ℕ) → n < phases k → f + 4 ≡ phases k → cond (ltb (f + n) 4) (tapsOf Y (f + n)) (tapsOf UV (f + n - 4)) ≡ tapsOf k n
+row-is : (t : PlaneType) (n f : ℕ) → n < phases t → f + 4 ≡ phases t → cond (ltb (f + n) 4) (tapsOf Y (f + n)) (tapsOf UV (f + n - 4)) ≡ tapsOf t n
 row-is Y n f l e =
     let z : f + n ≡ n = omega arith in
     ap (λ (b : Bool). cond b (tapsOf Y (f + n)) (tapsOf UV (f + n - 4))) (lt-ltb (f + n) 4 (omega arith)) ∙ ap (tapsOf Y) z
@@ -33,6 +33,6 @@ taps-of-spec =
     tie.close
     (tie.spec
     (λ c κs. search needs)
-    (λ c. let k = few (c .before .args .t) in let l = c .before .pre in record { fits = omega (arith, c .first-row .ensures) })
-    (λ c κs. let k = few (c .before .args .t) in let l = c .before .pre in omega (arith, c .first-row .ensures))
+    (λ c. let t = few (c .before .args .t) in let l = c .before .pre in record { fits = omega (arith, c .first-row .ensures) })
+    (λ c κs. let t = few (c .before .args .t) in let l = c .before .pre in omega (arith, c .first-row .ensures))
     returns)
