@@ -1,7 +1,7 @@
--- What lanes and blocks ask: the samples under the taps of each sample that is made.
+-- What lanes ask: the samples under the taps of each sample that is made.
 use mathlib.Core.Bool.{Bool, _&&_, _||_}
 use mathlib.Core.List.{List}
-use Prim.Native.Nat.{ℕ, _+_, _*_, _%_, _<_, _≤_}
+use Prim.Native.Nat.{ℕ, _+_, _%_, _<_, _≤_}
 use lib.Dec.{eqb, leb}
 use lib.ListN.{length}
 use Rattle.evc_filter.specs.Code.{Ordered, Small, Bounded}
@@ -18,10 +18,3 @@ pub record Row (most n : ℕ) (s : List ℕ) (at : ℕ) (o : Offsets) (taps : Ta
   pub ordered : Ordered o
   pub small : Small taps
   pub bounded : (x : ℕ) → x < n → Bounded most s (at + x) o
-
--- h such rows, `stride` apart
-pub record Rows (most n stride h : ℕ) (s : List ℕ) (at : ℕ) (o : Offsets) (taps : Taps) : Type 0 where
-  pub within : at + h * stride + n + o .p1 ≤ length s + stride
-  pub ordered : Ordered o
-  pub small : Small taps
-  pub bounded : (y x : ℕ) → y < h → x < n → Bounded most s (at + y * stride + x) o

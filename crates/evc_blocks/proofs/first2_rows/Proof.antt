@@ -1,14 +1,14 @@
--- `evc_lanes::second8_rows` meets its contract. The invariant: the first y rows are written. Assumes nothing.
+-- `evc_blocks::first2_rows` meets its contract. The invariant: the first y rows are written. Assumes nothing.
 use Prim.Native.Nat.{ℕ, _+_, _-_, _*_, _<_}
 use native.Mathlib.Omega.{arith}
 use lib.ListN.{length}
-use Rattle.evc_filter.specs.Code.{secondAt}
-use Rattle.evc_lanes.proofs.Lanes.{row, reads-fit, Written, none-written, room, one-more, writes-fit, all-written, next-fits, nearer}
-use Rattle.evc_lanes.proofs.second8_rows.Statement.{statement}
-use Rattle.evc_lanes.proofs.second8_rows.Tie as tie
+use Rattle.evc_filter.specs.Code.{firstAt}
+use Rattle.evc_blocks.proofs.Rows.{row, reads-fit, Written, none-written, room, one-more, writes-fit, all-written, next-fits, nearer}
+use Rattle.evc_blocks.proofs.first2_rows.Statement.{statement}
+use Rattle.evc_blocks.proofs.first2_rows.Tie as tie
 
 abbrev Inv-loop : tie.InvT-loop
-Inv-loop s at stride h o taps d₀ to width one y₀ d y = Written d₀ to width 8 h (λ (i x : ℕ). secondAt s (at + i * stride + x) o taps) d y
+Inv-loop s at stride h o taps d₀ to width one y₀ d y = Written d₀ to width 2 h (λ (i x : ℕ). firstAt s (at + i * stride + x) o taps) d y
 
 abbrev μ-loop : tie.MeasureT-loop
 μ-loop s at stride h o taps d₀ to width one y₀ d y = h - y
@@ -29,10 +29,10 @@ loop-again : tie.Need-loop-again Inv-loop μ-loop
 loop-again c =
     let q = c .before .before in
     let k = q .before .before in
-    one-more (k .before .loop .inv) (k .loop-test .taken) (start k .pre .2) (q .second8 .kept .1 .1 .1 .1 .0) (q .second8 .ensures)
+    one-more (k .before .loop .inv) (k .loop-test .taken) (start k .pre .2) (q .first2 .kept .1 .1 .1 .1 .0) (q .first2 .ensures)
 
-pub second8-rows-spec : {M : Type 1} → statement M
-second8-rows-spec =
+pub first2-rows-spec : {M : Type 1} → statement M
+first2-rows-spec =
     tie.close
     (tie.spec
     Inv-loop

@@ -1,15 +1,15 @@
--- `evc_lanes::single8_rows` meets its contract. The invariant: the first y rows are written. Assumes nothing.
+-- `evc_blocks::single2_rows` meets its contract. The invariant: the first y rows are written. Assumes nothing.
 use Prim.Native.Nat.{ℕ, _+_, _-_, _*_, _<_}
 use mathlib.Core.Path.{refl}
 use native.Mathlib.Omega.{arith}
 use lib.ListN.{length}
 use Rattle.evc_filter.specs.Code.{singleAt}
-use Rattle.evc_lanes.proofs.Lanes.{row, reads-fit, Written, none-written, room, one-more, writes-fit, all-written, next-fits, nearer}
-use Rattle.evc_lanes.proofs.single8_rows.Statement.{statement}
-use Rattle.evc_lanes.proofs.single8_rows.Tie as tie
+use Rattle.evc_blocks.proofs.Rows.{row, reads-fit, Written, none-written, room, one-more, writes-fit, all-written, next-fits, nearer}
+use Rattle.evc_blocks.proofs.single2_rows.Statement.{statement}
+use Rattle.evc_blocks.proofs.single2_rows.Tie as tie
 
 abbrev Inv-loop : tie.InvT-loop
-Inv-loop s at stride h o taps d₀ to width y₀ d y = Written d₀ to width 8 h (λ (i x : ℕ). singleAt s (at + i * stride + x) o taps) d y
+Inv-loop s at stride h o taps d₀ to width y₀ d y = Written d₀ to width 2 h (λ (i x : ℕ). singleAt s (at + i * stride + x) o taps) d y
 
 abbrev μ-loop : tie.MeasureT-loop
 μ-loop s at stride h o taps d₀ to width y₀ d y = h - y
@@ -30,10 +30,10 @@ loop-again : tie.Need-loop-again Inv-loop μ-loop
 loop-again c =
     let q = c .before .before in
     let k = q .before .before in
-    one-more (k .before .loop .inv) (k .loop-test .taken) refl (q .single8 .kept .1 .1 .1 .1 .0) (q .single8 .ensures)
+    one-more (k .before .loop .inv) (k .loop-test .taken) refl (q .single2 .kept .1 .1 .1 .1 .0) (q .single2 .ensures)
 
-pub single8-rows-spec : {M : Type 1} → statement M
-single8-rows-spec =
+pub single2-rows-spec : {M : Type 1} → statement M
+single2-rows-spec =
     tie.close
     (tie.spec
     Inv-loop

@@ -1,10 +1,10 @@
--- `evc_lanes::second_block` meets its contract: one of the loops, by the width. Assumes nothing.
+-- `evc_blocks::second_block` meets its contract: one of the loops, by the width. Assumes nothing.
 use mathlib.Core.Logic.{⊎-elim}
 use mathlib.Core.Path.{_≡_}
 use borrow.Author.Needs.{needs}
-use Rattle.evc_lanes.proofs.Lanes.{as-wide-rows, as-wide-room, as-wide}
-use Rattle.evc_lanes.proofs.second_block.Statement.{statement}
-use Rattle.evc_lanes.proofs.second_block.Tie as tie
+use Rattle.evc_blocks.proofs.Rows.{as-wide-rows, as-wide-room, as-wide}
+use Rattle.evc_blocks.proofs.second_block.Statement.{statement}
+use Rattle.evc_blocks.proofs.second_block.Tie as tie
 
 eight : (c : tie.Else1) → c .before .before .before .args .n ≡ 8
 eight c = ⊎-elim (λ e. absurd (c .if1 .left e)) (λ e. e) (c .before .before .before .pre .3)

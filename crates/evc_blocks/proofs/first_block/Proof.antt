@@ -1,10 +1,11 @@
--- `evc_lanes::first_block` meets its contract: one of the loops, by the width. Assumes nothing.
+-- `evc_blocks::first_block` meets its contract: one of the loops, by the width. Assumes nothing.
 use mathlib.Core.Path.{_≡_}
 use native.Mathlib.Omega.{arith}
 use borrow.Author.Needs.{needs}
-use Rattle.evc_lanes.proofs.Lanes.{as-wide-rows, as-wide-room, as-wide, eights}
-use Rattle.evc_lanes.proofs.first_block.Statement.{statement}
-use Rattle.evc_lanes.proofs.first_block.Tie as tie
+use Rattle.evc_lanes.proofs.Lanes.{eights}
+use Rattle.evc_blocks.proofs.Rows.{as-wide-rows, as-wide-room, as-wide}
+use Rattle.evc_blocks.proofs.first_block.Statement.{statement}
+use Rattle.evc_blocks.proofs.first_block.Tie as tie
 
 abbrev start : tie.Else1 → tie.Start
 start c = c .before .before .before

@@ -1,11 +1,11 @@
--- `evc_lanes::first8_rows` meets its contract. The invariant: the first y rows are written. Assumes nothing.
+-- `evc_blocks::first8_rows` meets its contract. The invariant: the first y rows are written. Assumes nothing.
 use Prim.Native.Nat.{ℕ, _+_, _-_, _*_, _<_}
 use native.Mathlib.Omega.{arith}
 use lib.ListN.{length}
 use Rattle.evc_filter.specs.Code.{firstAt}
-use Rattle.evc_lanes.proofs.Lanes.{row, reads-fit, Written, none-written, room, one-more, writes-fit, all-written, next-fits, nearer}
-use Rattle.evc_lanes.proofs.first8_rows.Statement.{statement}
-use Rattle.evc_lanes.proofs.first8_rows.Tie as tie
+use Rattle.evc_blocks.proofs.Rows.{row, reads-fit, Written, none-written, room, one-more, writes-fit, all-written, next-fits, nearer}
+use Rattle.evc_blocks.proofs.first8_rows.Statement.{statement}
+use Rattle.evc_blocks.proofs.first8_rows.Tie as tie
 
 abbrev Inv-loop : tie.InvT-loop
 Inv-loop s at stride h o taps d₀ to width one y₀ d y = Written d₀ to width 8 h (λ (i x : ℕ). firstAt s (at + i * stride + x) o taps) d y

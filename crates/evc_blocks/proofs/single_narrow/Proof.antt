@@ -1,11 +1,12 @@
--- `evc_lanes::single_narrow` meets its contract: one of the loops, by the width. Assumes nothing.
+-- `evc_blocks::single_narrow` meets its contract: one of the loops, by the width. Assumes nothing.
 use Prim.Native.Nat.{ℕ, _<_, _≤_}
 use mathlib.Core.Path.{_≡_, refl}
 use native.Mathlib.Omega.{arith}
 use borrow.Author.Needs.{needs}
-use Rattle.evc_lanes.proofs.Lanes.{as-wide-rows, as-wide, by-width}
-use Rattle.evc_lanes.proofs.single_narrow.Statement.{statement}
-use Rattle.evc_lanes.proofs.single_narrow.Tie as tie
+use Rattle.evc_lanes.proofs.Lanes.{by-width}
+use Rattle.evc_blocks.proofs.Rows.{as-wide-rows, as-wide}
+use Rattle.evc_blocks.proofs.single_narrow.Statement.{statement}
+use Rattle.evc_blocks.proofs.single_narrow.Tie as tie
 
 four : (c : tie.Then1) → c .before .before .before .args .n ≡ 4
 four c =

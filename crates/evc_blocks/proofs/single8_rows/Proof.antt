@@ -1,17 +1,18 @@
--- `evc_lanes::second4_rows` meets its contract. The invariant: the first y rows are written. Assumes nothing.
+-- `evc_blocks::single8_rows` meets its contract. The invariant: the first y rows are written. Assumes nothing.
 use Prim.Native.Nat.{ℕ, _+_, _-_, _*_, _<_}
+use mathlib.Core.Path.{refl}
 use native.Mathlib.Omega.{arith}
 use lib.ListN.{length}
-use Rattle.evc_filter.specs.Code.{secondAt}
-use Rattle.evc_lanes.proofs.Lanes.{row, reads-fit, Written, none-written, room, one-more, writes-fit, all-written, next-fits, nearer}
-use Rattle.evc_lanes.proofs.second4_rows.Statement.{statement}
-use Rattle.evc_lanes.proofs.second4_rows.Tie as tie
+use Rattle.evc_filter.specs.Code.{singleAt}
+use Rattle.evc_blocks.proofs.Rows.{row, reads-fit, Written, none-written, room, one-more, writes-fit, all-written, next-fits, nearer}
+use Rattle.evc_blocks.proofs.single8_rows.Statement.{statement}
+use Rattle.evc_blocks.proofs.single8_rows.Tie as tie
 
 abbrev Inv-loop : tie.InvT-loop
-Inv-loop s at stride h o taps d₀ to width one y₀ d y = Written d₀ to width 4 h (λ (i x : ℕ). secondAt s (at + i * stride + x) o taps) d y
+Inv-loop s at stride h o taps d₀ to width y₀ d y = Written d₀ to width 8 h (λ (i x : ℕ). singleAt s (at + i * stride + x) o taps) d y
 
 abbrev μ-loop : tie.MeasureT-loop
-μ-loop s at stride h o taps d₀ to width one y₀ d y = h - y
+μ-loop s at stride h o taps d₀ to width y₀ d y = h - y
 
 abbrev start : tie.In-loop Inv-loop μ-loop → tie.Start Inv-loop μ-loop
 start c = c .before .before .before .before
@@ -29,10 +30,10 @@ loop-again : tie.Need-loop-again Inv-loop μ-loop
 loop-again c =
     let q = c .before .before in
     let k = q .before .before in
-    one-more (k .before .loop .inv) (k .loop-test .taken) (start k .pre .2) (q .second4 .kept .1 .1 .1 .1 .0) (q .second4 .ensures)
+    one-more (k .before .loop .inv) (k .loop-test .taken) refl (q .single8 .kept .1 .1 .1 .1 .0) (q .single8 .ensures)
 
-pub second4-rows-spec : {M : Type 1} → statement M
-second4-rows-spec =
+pub single8-rows-spec : {M : Type 1} → statement M
+single8-rows-spec =
     tie.close
     (tie.spec
     Inv-loop
@@ -43,8 +44,8 @@ second4-rows-spec =
     (λ c. record { fits = writes (c .before) .0 })
     (λ c. record { fits = writes (c .before) .1 })
     (λ c κs. let k = c .before in (row (start k .pre .0) (k .loop-test .taken), room (k .before .loop .inv) (k .loop-test .taken) (start k .pre .1)))
-    (λ c. let k = c .before .before .before .before in record { fits = next-fits (k .loop-test .taken) (start k .fits .h .fits) (start k .pre .2) })
-    (λ c. let k = c .before .before .before .before in nearer (k .loop-test .taken) (start k .pre .2))
+    (λ c. let k = c .before .before .before .before in record { fits = next-fits (k .loop-test .taken) (start k .fits .h .fits) refl })
+    (λ c. let k = c .before .before .before .before in nearer (k .loop-test .taken) refl)
     loop-again
     (λ c. c .before .loop .inv .as-long)
     (λ c. all-written (c .before .loop .inv) (c .loop-test .left)))
