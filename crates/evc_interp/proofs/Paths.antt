@@ -1,4 +1,4 @@
--- What the paths ask of evc_filter's blocks, and what these give: the samples under the taps lie in the window. Assumes nothing.
+-- What the paths ask of evc_blocks, and what these give: the samples under the taps lie in the window. Assumes nothing.
 use Prim.Native.Nat.{ℕ, zero, suc, _+_, _*_, _/_, _%_, _<_, _≤_}
 use mathlib.Core.Logic.{_⊎_, inl, inr}
 use mathlib.Core.Bool.{Bool, true, false, cond}
@@ -13,9 +13,11 @@ use Rattle.evc_int.specs.Lists.{withRow, withBlock}
 use Rattle.evc_int.proofs.Lists.{row-fits, length-withBlock, withRow-ext, withRow-join, withBlock-ext, withBlock-in, withBlock-run, columns-step}
 use Rattle.evc_int.proofs.Whole.{Is}
 use Rattle.evc_filter.specs.Filter.{phases, reach, interpolated, rowStage, interpolatedTwice}
-use Rattle.evc_filter.specs.Code.{tapsOf, offsetsOf, Ordered, Small, Bounded, isRowWidth, quarterAt, oneAt, splitAt}
-use Rattle.evc_filter.proofs.Sums.{taps-small, offsets-ordered, first-is, one-is, split-is, quarter-most}
-use Rattle.evc_filter.proofs.Lanes.{eights, by-width}
+use Rattle.evc_filter.specs.Code.{tapsOf, offsetsOf, Bounded, firstAt, singleAt, secondAt}
+use Rattle.evc_filter.proofs.Sums.{taps-small, offsets-ordered, first-is, single-is, second-is, first-most}
+use Rattle.evc_lanes.specs.Code.{isRowWidth}
+use Rattle.evc_lanes.proofs.Lanes.{eights, by-width}
+use Rattle.evc_blocks.specs.Code.{Rows}
 use Rattle.evc_plane.specs.Planes.{sideOf}
 use Rattle.evc_plane.specs.declared.PlaneType.{PlaneType}
 use Rattle.evc_plane.specs.declared.PlaneType.the-variants.{Y, UV}
@@ -64,7 +66,7 @@ module _ (k : PlaneType) (s : List ℕ) (at stride w h : ℕ) where
   pub down : Within s at stride w (h + reach k) → (y x : ℕ) → y < h → x < w → Near 1023 k s (at + y * stride + x) stride
   down q y x ly lx j lj = subst (λ (i : ℕ). getD s i 0 ≤ 1023) (omega (arith, add-mul y j stride)) (q (y + j) x (omega arith) lx)
 
--- one direction, n columns from column c on; across or down
+-- a single direction, n columns from column c on; across or down
 abbrev pub stepOf : Bool → ℕ → ℕ
 stepOf horizontal stride = cond horizontal 1 stride
 
@@ -87,21 +89,26 @@ module _ (k : PlaneType) (s : List ℕ) (at stride w h : ℕ) (horizontal : Bool
       go false l = omega (arith, add-mul h (reach k) stride)
 
   -- n columns from column c on, whose first sample is at i
-  pub one-asks : (phase c n i : ℕ) (d : List ℕ) (o : Offsets) (t : Taps) → o ≡ offsetsOf k (stepOf horizontal stride) → t ≡ tapsOf k phase → phase < phases k → c + n ≤ w → i ≡ at + c
+  pub single-asks : (phase c n i : ℕ) (d : List ℕ) (o : Offsets) (t : Taps) → o ≡ offsetsOf k (stepOf horizontal stride) → t ≡ tapsOf k phase → phase < phases k → c + n ≤ w → i ≡ at + c
       → at + (h + cond horizontal 0 (reach k)) * stride + (w + cond horizontal (reach k) 0) ≤ length s + stride → h * w ≤ length d
-      → ((i + h * stride + n + o .p1 ≤ length s + stride) × (c + h * w + n ≤ length d + w) × Ordered o × Small t) × ((y x : ℕ) → y < h → x < n → Bounded 1023 s (i + y * stride + x) o)
-  one-asks phase c n i d o t eo et l r e a b =
+      → Rows 1023 n stride h s i o t × (c + h * w + n ≤ length d + w)
+  single-asks phase c n i d o t eo et l r e a b =
       let g = ends a in
       rw (eo, et, e) (
-        (omega (arith, last-place k (stepOf horizontal stride)), omega arith, offsets-ordered k (stepOf horizontal stride), taps-small k phase l),
-        λ y x ly lx. bounded 1023 k s (at + c + y * stride + x) (stepOf horizontal stride) (near-group c n r y x ly lx),
+        record {
+          within = omega (arith, last-place k (stepOf horizontal stride));
+          ordered = offsets-ordered k (stepOf horizontal stride);
+          small = taps-small k phase l;
+          bounded = λ y x ly lx. bounded 1023 k s (at + c + y * stride + x) (stepOf horizontal stride) (near-group c n r y x ly lx);
+        },
+        omega arith,
       )
 
-  pub one-gives : (phase : ℕ) → phase < phases k → (d : List ℕ) (o : Offsets) (t : Taps) → o ≡ offsetsOf k (stepOf horizontal stride) → t ≡ tapsOf k phase
-      → withBlock d 0 w w h (λ (y x : ℕ). oneAt s (at + y * stride + x) o t) ≡ withBlock d 0 w w h (λ (y x : ℕ). interpolated k phase s (at + y * stride + x) (stepOf horizontal stride))
-  one-gives phase l d o t eo et =
+  pub single-gives : (phase : ℕ) → phase < phases k → (d : List ℕ) (o : Offsets) (t : Taps) → o ≡ offsetsOf k (stepOf horizontal stride) → t ≡ tapsOf k phase
+      → withBlock d 0 w w h (λ (y x : ℕ). singleAt s (at + y * stride + x) o t) ≡ withBlock d 0 w w h (λ (y x : ℕ). interpolated k phase s (at + y * stride + x) (stepOf horizontal stride))
+  single-gives phase l d o t eo et =
       withBlock-ext d 0 w w h _ _
-      (λ y x ly lx. ap₂ (λ (o : Offsets) (t : Taps). oneAt s (at + y * stride + x) o t) eo et ∙ one-is k phase l s (at + y * stride + x) (stepOf horizontal stride) (bounded 1023 k s (at + y * stride + x) (stepOf horizontal stride) (near y x ly lx)))
+      (λ y x ly lx. ap₂ (λ (o : Offsets) (t : Taps). singleAt s (at + y * stride + x) o t) eo et ∙ single-is k phase l s (at + y * stride + x) (stepOf horizontal stride) (bounded 1023 k s (at + y * stride + x) (stepOf horizontal stride) (near y x ly lx)))
 
 -- a row of a window, read from its place on
 pub row-sample : (i : ℕ) (s : List ℕ) (x : ℕ) → getD (drop i s) x 0 ≡ getD s (i + x) 0
@@ -186,26 +193,26 @@ module _ (k : PlaneType) (s m : List ℕ) (at stride n h dx : ℕ) (dx-small : d
   long : (h + reach k) * n ≤ length m
   long = omega (arith, mul-le-mul-left (h + reach k) ln)
 
-  pub quarter-asks : (r : ℕ) (one : ℕ) → r ≡ reach k → one ≡ 1 → at + (h + reach k) * stride + (n + reach k) ≤ length s + stride → isRowWidth n ≡ true
-      → ((at + (h + r) * stride + n + offsetsOf k 1 .p1 ≤ length s + stride) × (0 + (h + r) * n + n ≤ length m + n) × (isRowWidth n ≡ true) × (n ≤ 8) × Ordered (offsetsOf k 1) × Small (tapsOf k dx))
-      × (((y x : ℕ) → y < h + r → x < n → Bounded 1023 s (at + y * stride + x) (offsetsOf k 1)) × (one ≡ 1))
-  quarter-asks r one e e1 a w = rw e ((omega (arith, last-place k 1), omega (arith, long), w, ln, offsets-ordered k 1, taps-small k dx dx-small), (bound, e1))
+  pub first-asks : (r : ℕ) (one : ℕ) → r ≡ reach k → one ≡ 1 → at + (h + reach k) * stride + (n + reach k) ≤ length s + stride → isRowWidth n ≡ true
+      → Rows 1023 n stride (h + r) s at (offsetsOf k 1) (tapsOf k dx) × (0 + (h + r) * n + n ≤ length m + n) × (one ≡ 1) × (isRowWidth n ≡ true) × (n ≤ 8)
+  first-asks r one e e1 a w =
+      rw e (record { within = omega (arith, last-place k 1); ordered = offsets-ordered k 1; small = taps-small k dx dx-small; bounded = bound }, omega (arith, long), e1, w, ln)
 
   -- what m holds after the first stage
   module _ (v : List ℕ) (r : ℕ) (o : Offsets) (t : Taps) (er : r ≡ reach k) (eo : o ≡ offsetsOf k 1) (et : t ≡ tapsOf k dx)
-      (p : v ≡ withBlock m 0 n n (h + r) (λ (y x : ℕ). quarterAt s (at + y * stride + x) o t)) where
-    holds : (y x : ℕ) → y < h + reach k → x < n → getD v (0 + y * n + x) 0 ≡ quarterAt s (at + y * stride + x) (offsetsOf k 1) (tapsOf k dx)
+      (p : v ≡ withBlock m 0 n n (h + r) (λ (y x : ℕ). firstAt s (at + y * stride + x) o t)) where
+    holds : (y x : ℕ) → y < h + reach k → x < n → getD v (0 + y * n + x) 0 ≡ firstAt s (at + y * stride + x) (offsetsOf k 1) (tapsOf k dx)
     holds y x ly lx =
         ap (λ (l : List ℕ). getD l (0 + y * n + x) 0) p
         ∙ withBlock-in 0 m 0 n n (h + r) _ y x (omega arith) lx (omega arith) (omega (arith, long, ap (λ (i : ℕ). (h + i) * n) er))
-        ∙ ap₂ (λ (o : Offsets) (t : Taps). quarterAt s (at + y * stride + x) o t) eo et
+        ∙ ap₂ (λ (o : Offsets) (t : Taps). firstAt s (at + y * stride + x) o t) eo et
 
     -- row y, and the j-th one further down
-    further : (y x j : ℕ) → y < h → x < n → j ≤ reach k → getD v (0 + y * n + x + j * n) 0 ≡ quarterAt s (at + y * stride + x + j * stride) (offsetsOf k 1) (tapsOf k dx)
+    further : (y x j : ℕ) → y < h → x < n → j ≤ reach k → getD v (0 + y * n + x + j * n) 0 ≡ firstAt s (at + y * stride + x + j * stride) (offsetsOf k 1) (tapsOf k dx)
     further y x j ly lx lj =
         let e : 0 + y * n + x + j * n ≡ 0 + (y + j) * n + x = omega (arith, add-mul y j n) in
         let f : at + (y + j) * stride + x ≡ at + y * stride + x + j * stride = omega (arith, add-mul y j stride) in
-        ap (λ (i : ℕ). getD v i 0) e ∙ holds (y + j) x (omega arith) lx ∙ ap (λ (i : ℕ). quarterAt s i (offsetsOf k 1) (tapsOf k dx)) f
+        ap (λ (i : ℕ). getD v i 0) e ∙ holds (y + j) x (omega arith) lx ∙ ap (λ (i : ℕ). firstAt s i (offsetsOf k 1) (tapsOf k dx)) f
 
     bound-at : (y x j : ℕ) → y < h → x < n → j ≤ reach k → Bounded 1023 s (at + y * stride + x + j * stride) (offsetsOf k 1)
     bound-at y x j ly lx lj =
@@ -215,7 +222,7 @@ module _ (k : PlaneType) (s m : List ℕ) (at stride n h dx : ℕ) (dx-small : d
     second-bound : (y x : ℕ) → y < h → x < n → Bounded 26603 v (0 + y * n + x) (offsetsOf k n)
     second-bound y x ly lx =
         bounded 26603 k v (0 + y * n + x) n
-        (λ j lj. subst (λ (i : ℕ). i ≤ 26603) (sym (further y x j ly lx lj)) (quarter-most s (at + y * stride + x + j * stride) (offsetsOf k 1) (tapsOf k dx) (taps-small k dx dx-small) (bound-at y x j ly lx lj)))
+        (λ j lj. subst (λ (i : ℕ). i ≤ 26603) (sym (further y x j ly lx lj)) (first-most s (at + y * stride + x + j * stride) (offsetsOf k 1) (tapsOf k dx) (taps-small k dx dx-small) (bound-at y x j ly lx lj)))
 
     -- by its place among all numbers
     place-bound : (i : ℕ) → i < h * n → Bounded 26603 v i (offsetsOf k n)
@@ -228,27 +235,35 @@ module _ (k : PlaneType) (s m : List ℕ) (at stride n h dx : ℕ) (dx-small : d
         positive (suc n) l = omega arith
 
     -- the second stage, over `rows` rows of `lanes` numbers
-    pub split-asks : (lanes rows : ℕ) → rows * lanes ≡ h * n → (lanes ≡ 4) ⊎ (lanes ≡ 8) → (d : List ℕ) (to width dy one : ℕ) → dy < phases k → one ≡ 1 → to + rows * width + lanes ≤ length d + width
-        → ((0 + rows * lanes + lanes + offsetsOf k n .p1 ≤ length v + lanes) × (to + rows * width + lanes ≤ length d + width) × ((lanes ≡ 4) ⊎ (lanes ≡ 8)) × Ordered (offsetsOf k n) × Small (tapsOf k dy))
-        × (((y x : ℕ) → y < rows → x < lanes → Bounded 26603 v (0 + y * lanes + x) (offsetsOf k n)) × (one ≡ 1))
-    split-asks lanes rows e f d to width dy one l e1 a =
-        let c : length v ≡ length m = ap length p ∙ length-withBlock m 0 n n (h + r) _ in
-        ((omega (arith, last-place k n, add-mul h (reach k) n, long), a, f, offsets-ordered k n, taps-small k dy l), (λ y x ly lx. place-bound (0 + y * lanes + x) (omega (arith, row-fits lanes ly)), e1))
+    pub second-asks : (lanes rows : ℕ) → rows * lanes ≡ h * n → (lanes ≡ 4) ⊎ (lanes ≡ 8) → (d : List ℕ) (to width dy one : ℕ) → dy < phases k → one ≡ 1 → to + rows * width + lanes ≤ length d + width
+        → Rows 26603 lanes lanes rows v 0 (offsetsOf k n) (tapsOf k dy) × (to + rows * width + lanes ≤ length d + width) × (one ≡ 1) × ((lanes ≡ 4) ⊎ (lanes ≡ 8))
+    second-asks lanes rows e f d to width dy one l e1 a =
+        let c : length v ≡ length m = ap length p ∙ length-withBlock m 0 n n (h + r) _ in (
+          record {
+            within = omega (arith, last-place k n, add-mul h (reach k) n, long);
+            ordered = offsets-ordered k n;
+            small = taps-small k dy l;
+            bounded = λ y x ly lx. place-bound (0 + y * lanes + x) (omega (arith, row-fits lanes ly));
+          },
+          a,
+          e1,
+          f,
+        )
 
     row-is : (y x j : ℕ) → y < h → x < n → j ≤ reach k → Is (rowStage k dx s (at + y * stride + x + j * stride)) (getD v (0 + y * n + x + j * n) 0) 5120
     unfolding rowStage
     row-is y x j ly lx lj = rw (further y x j ly lx lj) (first-is k dx dx-small s (at + y * stride + x + j * stride) 1 (bound-at y x j ly lx lj))
 
-    split-gives : (d : List ℕ) (to w dy : ℕ) (u : Offsets) (z : Taps) → u ≡ offsetsOf k n → z ≡ tapsOf k dy → dy < phases k
-        → withBlock d to w n h (λ (y x : ℕ). splitAt v (0 + y * n + x) u z) ≡ withBlock d to w n h (λ (y x : ℕ). interpolatedTwice k dx dy s (at + y * stride + x) stride)
-    split-gives d to w dy u z eu ez l =
+    second-gives : (d : List ℕ) (to w dy : ℕ) (u : Offsets) (z : Taps) → u ≡ offsetsOf k n → z ≡ tapsOf k dy → dy < phases k
+        → withBlock d to w n h (λ (y x : ℕ). secondAt v (0 + y * n + x) u z) ≡ withBlock d to w n h (λ (y x : ℕ). interpolatedTwice k dx dy s (at + y * stride + x) stride)
+    second-gives d to w dy u z eu ez l =
         withBlock-ext d to w n h _ _
-        (λ y x ly lx. ap₂ (λ (u : Offsets) (z : Taps). splitAt v (0 + y * n + x) u z) eu ez ∙ split-is k dx dy l s v (at + y * stride + x) (0 + y * n + x) stride n (second-bound y x ly lx) (λ j lj. row-is y x j ly lx lj))
+        (λ y x ly lx. ap₂ (λ (u : Offsets) (z : Taps). secondAt v (0 + y * n + x) u z) eu ez ∙ second-is k dx dy l s v (at + y * stride + x) (0 + y * n + x) stride n (second-bound y x ly lx) (λ j lj. row-is y x j ly lx lj))
 
     -- the same from the rows that the code has
-    pub split-done : (w lanes width : ℕ) → Lanes n h → (n < 8 → w ≡ n) → lanes ≡ lanesOf n h → width ≡ cond (ltb n 8) lanes w → (d : List ℕ) (to dy : ℕ) (u : Offsets) (z : Taps) → u ≡ offsetsOf k n → z ≡ tapsOf k dy → dy < phases k
-        → withBlock d to width lanes (h * n / lanes) (λ (y x : ℕ). splitAt v (0 + y * lanes + x) u z) ≡ withBlock d to w n h (λ (y x : ℕ). interpolatedTwice k dx dy s (at + y * stride + x) stride)
-    split-done w lanes width L narrow el ew d to dy u z eu ez l = lanes-give n h w lanes width L ln narrow el ew d to (λ (i : ℕ). splitAt v i u z) ∙ split-gives d to w dy u z eu ez l
+    pub second-done : (w lanes width : ℕ) → Lanes n h → (n < 8 → w ≡ n) → lanes ≡ lanesOf n h → width ≡ cond (ltb n 8) lanes w → (d : List ℕ) (to dy : ℕ) (u : Offsets) (z : Taps) → u ≡ offsetsOf k n → z ≡ tapsOf k dy → dy < phases k
+        → withBlock d to width lanes (h * n / lanes) (λ (y x : ℕ). secondAt v (0 + y * lanes + x) u z) ≡ withBlock d to w n h (λ (y x : ℕ). interpolatedTwice k dx dy s (at + y * stride + x) stride)
+    second-done w lanes width L narrow el ew d to dy u z eu ez l = lanes-give n h w lanes width L ln narrow el ew d to (λ (i : ℕ). secondAt v i u z) ∙ second-gives d to w dy u z eu ez l
 
 -- ---- a block by groups of eight columns
 

@@ -30,7 +30,7 @@ use Rattle.evc_plane.proofs.Laws.{window-fits}
 use Rattle.evc_plane.proofs.Samples.{exceeds-none}
 use Rattle.evc_plane.proofs.Sizes.{sizes}
 use Rattle.evc_filter.specs.Filter.{phases, lead, reach, interpolated, interpolatedTwice}
-use Rattle.evc_filter.specs.Code.{isRowWidth}
+use Rattle.evc_lanes.specs.Code.{isRowWidth}
 use Rattle.evc_interp.specs.Prediction.{phaseOf, placeOf, isFiltered, startOf, windowOf, sampleBy, predicted, isSide, windowExceeds, mcPlaneCode}
 use Rattle.evc_interp.specs.Code.{Within, positionOf, Readable, sampleFrom}
 use Rattle.evc_interp.specs.declared.Position.{Position}

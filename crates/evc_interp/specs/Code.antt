@@ -8,7 +8,7 @@ use Rattle.evc_def.specs.declared.EvcMv.{EvcMv}
 use Rattle.evc_plane.specs.Planes.{sideOf, strideOf}
 use Rattle.evc_plane.specs.declared.PlaneType.{PlaneType}
 use Rattle.evc_filter.specs.Filter.{phases, reach}
-use Rattle.evc_filter.specs.Code.{isRowWidth}
+use Rattle.evc_lanes.specs.Code.{isRowWidth}
 use Rattle.evc_interp.specs.Prediction.{phaseOf, isFiltered, windowOf, sampleBy}
 use Rattle.evc_interp.specs.declared.Position.{Position}
 

@@ -8,7 +8,7 @@ ghost use Rattle.evc_int.specs.Lists.{withRow, withBlock};
 ghost use Rattle.evc_def.specs.Blocks.{badPicture};
 ghost use Rattle.evc_plane.specs.Planes.{sideOf, planeLen};
 ghost use Rattle.evc_filter.specs.Filter.{phases, lead, reach, interpolated, interpolatedTwice};
-ghost use Rattle.evc_filter.specs.Code.{isRowWidth};
+ghost use Rattle.evc_lanes.specs.Code.{isRowWidth};
 ghost use Rattle.evc_interp.specs.Prediction.{phaseOf, placeOf, isFiltered, startOf, windowOf, isSide, windowExceeds, mcPlaneCode, mcPlaneAfter};
 ghost use Rattle.evc_interp.specs.declared.Position.{Position};
 ghost use Rattle.evc_interp.specs.Code.{Within, positionOf, Readable, sampleFrom};
@@ -93,7 +93,7 @@ fn evc_mc_00(s: &[u16], at: usize, stride: usize, w: usize, h: usize, pred: &mut
     }
 }
 
-// 1, by a sum that the optimizer does not know: see evc_filter's blocks.
+// 1, by a sum that the optimizer does not know: see evc_blocks.
 fn unit(h: usize) -> usize
     requires { ⌜ h ≤ 64 ⌝ }
     ensures { λ r. ⌜ r ≡ 1 ⌝ }
@@ -137,17 +137,17 @@ fn evc_mc_one(
     let o = evc_filter::offsets_of(t, select(across, 1, stride));
     let taps = evc_filter::taps_of(t, phase);
     if w < 8 {
-        evc_filter::one_narrow(s, at, stride, w, h, o, taps, pred);
+        evc_blocks::single_narrow(s, at, stride, w, h, o, taps, pred);
         return;
     }
     // Called at two places, the lanes are not built into this function, where their loop is a fifth longer.
     if w == 8 {
-        evc_filter::one_octs(s, at, stride, h, o, taps, pred, 0, w);
+        evc_blocks::single8_rows(s, at, stride, h, o, taps, pred, 0, w);
         return;
     }
     let mut cg = 0;
     while cg + 8 <= w {
-        evc_filter::one_octs(s, at + cg, stride, h, o, taps, pred, cg, w);
+        evc_blocks::single8_rows(s, at + cg, stride, h, o, taps, pred, cg, w);
         cg += 8;
     }
 }
@@ -174,7 +174,7 @@ fn columns(
     ensures { λ _. ⌜ now (pred .exit) ≡ withBlock (now (pred .entry)) to w n h (λ (y x : ℕ). interpolatedTwice t dx dy (now (s .entry)) (at + y * stride + x) stride) ⌝ }
 {
     let one = unit(h);
-    evc_filter::quarter_block(
+    evc_blocks::first_block(
         &*s,
         at,
         stride,
@@ -189,7 +189,7 @@ fn columns(
     );
     let lanes = select(h * n < 8, 4, 8);
     let width = select(n < 8, lanes, w);
-    evc_filter::split_block(
+    evc_blocks::second_block(
         m,
         0,
         lanes,

@@ -18,7 +18,8 @@ use Rattle.evc_plane.specs.declared.PlaneType.{PlaneType}
 use Rattle.evc_plane.specs.declared.PlaneType.the-variants.{Y, UV}
 use Rattle.evc_plane.specs.Planes.{sideOf, reference}
 use Rattle.evc_filter.specs.Filter.{taps, phases, lead, reach, firstStage, secondStage}
-use Rattle.evc_filter.proofs.Sums.{shape, balance}
+use Rattle.evc_filter.proofs.Tables.{shape}
+use Rattle.evc_filter.proofs.Sums.{balance}
 use Rattle.evc_interp.specs.Prediction.{phaseOf, placeOf}
 use Rattle.evc_interp.proofs.Windows.{some-phase, phase-small}
 use Rattle.evc_clip.specs.Clip.{margin, clipComponent, clipMv, clippedPlace}

@@ -25,8 +25,8 @@ use Rattle.evc_plane.specs.Planes.{sideOf, padOf, strideOf, referenceOf}
 use Rattle.evc_plane.specs.declared.PlaneType.{PlaneType}
 use Rattle.evc_plane.specs.declared.PlaneType.the-variants.{Y, UV}
 use Rattle.evc_plane.proofs.Laws.{window-reads-reference, reference-small, accepts, after}
-use Rattle.evc_filter.specs.Filter.{taps, lead, reach, tapSum, along, oneDirection, firstStage, secondStage, interpolated, rowStage, interpolatedTwice}
-use Rattle.evc_filter.proofs.Sums.{shape}
+use Rattle.evc_filter.specs.Filter.{taps, lead, reach, tapSum, along, singleStage, firstStage, secondStage, interpolated, rowStage, interpolatedTwice}
+use Rattle.evc_filter.proofs.Tables.{shape}
 use Rattle.evc_interp.specs.Prediction.{phaseOf, placeOf, isFiltered, startOf, windowOf, sampleBy, predicted}
 use Rattle.evc_interp.proofs.Windows.{phase-small}
 use Rattle.evc_law.specs.General.{tapped, general₁, general}
@@ -141,10 +141,10 @@ module _ (k : PlaneType) (W H : ℕ) (q : List ℕ) (done : padCode k W H q ≡ 
         window-reads false false _ _ x y _ refl (start-whole k (gmv .x) x) (start-whole k (gmv .y) y) column-in row-in
         ∙ sym (sample-alone k (referenceOf k W H q) (gmv .x) (gmv .y) x y (px refl) (py refl) (reference-small k W H q done _ _))
     by-path true false px py =
-        ap oneDirection (row-reads false (placeOf k (gmv .y) +ℤ pos y) y _ refl (start-whole k (gmv .y) y) row-in)
+        ap singleStage (row-reads false (placeOf k (gmv .y) +ℤ pos y) y _ refl (start-whole k (gmv .y) y) row-in)
         ∙ sym (across-alone k (referenceOf k W H q) (gmv .x) (gmv .y) x y (py refl))
     by-path false true px py =
-        ap oneDirection (column-reads (placeOf k (gmv .x) +ℤ pos x) (start-whole k (gmv .x) x))
+        ap singleStage (column-reads (placeOf k (gmv .x) +ℤ pos x) (start-whole k (gmv .x) x))
         ∙ sym (down-alone k (referenceOf k W H q) (gmv .x) (gmv .y) x y (px refl))
     by-path true true px py = rows-read
 

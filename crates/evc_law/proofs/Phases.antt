@@ -13,7 +13,7 @@ use Rattle.evc_int.proofs.Expressions.{Ex, !, _⊕_, _⊗_, neg, solve}
 use Rattle.evc_int.proofs.Division.{solve-shr, fact-shr}
 use Rattle.evc_plane.specs.declared.PlaneType.{PlaneType}
 use Rattle.evc_plane.specs.declared.PlaneType.the-variants.{Y, UV}
-use Rattle.evc_filter.specs.Filter.{taps, lead, tapSum, clipSample, oneDirection}
+use Rattle.evc_filter.specs.Filter.{taps, lead, tapSum, clipSample, singleStage}
 use Rattle.evc_interp.specs.Prediction.{phaseOf, placeOf}
 use Rattle.evc_law.specs.General.{tapped, general₁, general}
 
@@ -89,14 +89,14 @@ module _ (k : PlaneType) (s : ℤ → ℤ → ℕ) (px py : ℤ) (c r : ℕ) whe
   row : ℤ
   row = placeOf k py +ℤ pos r
 
-  pub down-alone : phaseOf k px ≡ 0 → general k s px py c r ≡ oneDirection (tapped k (λ (j : ℤ). pos (s (placeOf k px +ℤ pos c) j)) py r)
+  pub down-alone : phaseOf k px ≡ 0 → general k s px py c r ≡ singleStage (tapped k (λ (j : ℤ). pos (s (placeOf k px +ℤ pos c) j)) py r)
   unfolding general general₁ column
   down-alone h =
       ap (λ (z : ℤ). clipSample (shrZ (z +ℤ pos 512) 1024))
       (tapped-same k _ _ (λ j. ap (λ (z : ℤ). shrZ z 4) (tapped-whole k (λ (i : ℤ). pos (s i j)) px c h) ∙ sixteen (pos (s column j))) py r ∙ tapped-scale k (pos 16) (λ (j : ℤ). pos (s column j)) py r)
       ∙ ap clipSample (sixteenfold (tapped k (λ (j : ℤ). pos (s column j)) py r))
 
-  pub across-alone : phaseOf k py ≡ 0 → general k s px py c r ≡ oneDirection (tapped k (λ (i : ℤ). pos (s i (placeOf k py +ℤ pos r))) px c)
+  pub across-alone : phaseOf k py ≡ 0 → general k s px py c r ≡ singleStage (tapped k (λ (i : ℤ). pos (s i (placeOf k py +ℤ pos r))) px c)
   unfolding general general₁ row
   across-alone h =
       ap (λ (z : ℤ). clipSample (shrZ (z +ℤ pos 512) 1024)) (tapped-whole k (general₁ k s px c) py r h)
@@ -107,6 +107,6 @@ module _ (k : PlaneType) (s : ℤ → ℤ → ℕ) (px py : ℤ) (c r : ℕ) whe
   sample-alone h g b =
       let v = s column row in
       across-alone g
-      ∙ ap oneDirection (tapped-whole k (λ (i : ℤ). pos (s i row)) px c h)
+      ∙ ap singleStage (tapped-whole k (λ (i : ℤ). pos (s i row)) px c h)
       ∙ ap clipSample (solve-shr 64 (! (pos 64) ⊗ ! (pos v) ⊕ ! (pos 32)) (! (pos v)) (omega arith))
       ∙ omega arith

@@ -9,11 +9,10 @@ use lib.ListN.{length, length-reverse}
 use Rattle.evc_int.specs.Whole.{−_}
 use Rattle.evc_int.proofs.Expressions.{ !, _⊕_, _⊖_, _⊗_, neg, solve, fact}
 use Rattle.evc_int.proofs.Division.{split, split-only, modulo-lt}
-use Rattle.evc_def.proofs.Tables.{luma-symmetric, chroma-symmetric}
 use Rattle.evc_plane.specs.declared.PlaneType.{PlaneType}
 use Rattle.evc_plane.specs.declared.PlaneType.the-variants.{Y, UV}
 use Rattle.evc_filter.specs.Filter.{taps, phases, lead, reach, tapSum, firstStage, secondStage}
-use Rattle.evc_filter.proofs.Sums.{shape}
+use Rattle.evc_filter.proofs.Tables.{symmetric, shape}
 use Rattle.evc_interp.specs.Prediction.{phaseOf, placeOf}
 use Rattle.evc_interp.proofs.Windows.{some-phase}
 use Rattle.evc_law.specs.General.{tapped, general₁, general}
@@ -41,12 +40,6 @@ tapSum-mirror (t ∷ ts) f g m =
     ∙ ap (λ (z : ℤ). z +ℤ t *ℤ g (length ts)) (tapSum-mirror ts (λ (i : ℕ). f (suc i)) g (λ i j e. m i (suc j) (omega arith)))
     ∙ ap (λ (z : ℤ). s +ℤ t *ℤ z) (m (length ts) 0 (omega arith))
     ∙ solve (! s ⊕ ! t ⊗ ! x) (! t ⊗ ! x ⊕ ! s) (omega arith)
-
--- ---- the fixed filters
-
-pub taps-mirror : (k : PlaneType) (q : ℕ) → suc q < phases k → taps k (phases k - suc q) ≡ reverse (taps k (suc q))
-taps-mirror Y = luma-symmetric
-taps-mirror UV = chroma-symmetric
 
 -- the taps lie evenly around the place and the sample after it
 reach-even : (k : PlaneType) → reach k ≡ 2 * lead k + 1
@@ -93,7 +86,7 @@ module _ (k : PlaneType) (f g : ℤ → ℤ) (N D : ℤ) (mirror : LineMirrored 
           let over : ℤ → ℕ → ℤ = λ (z : ℤ) (t : ℕ). g (z +ℤ pos c′ +ℤ − b +ℤ pos t) in
           tapped-is k g p′ c′
           ∙ ap₂ (λ (x : ℕ) (z : ℤ). tapSum (taps k x) (over z)) (o .1) (o .0)
-          ∙ ap (λ (ts : List ℤ). tapSum ts (over w′)) (taps-mirror k q (omega arith))
+          ∙ ap (λ (ts : List ℤ). tapSum ts (over w′)) (symmetric k q (omega arith))
           ∙ tapSum-mirror (taps k (suc q)) (λ (t : ℕ). f (w +ℤ pos c +ℤ − b +ℤ pos t)) (over w′)
           (λ i j s. mirror (w′ +ℤ pos c′ +ℤ − b +ℤ pos i) (w +ℤ pos c +ℤ − b +ℤ pos j)
           (solve ((! D ⊖ ! w ⊖ ! (pos 1)) ⊕ ! (pos c′) ⊕ neg (! (pos b)) ⊕ ! (pos i) ⊕ (! w ⊕ ! (pos c) ⊕ neg (! (pos b)) ⊕ ! (pos j)) ⊕ ! (pos 1)) (! N)

@@ -6,7 +6,7 @@ ghost use Rattle.evc_int.specs.Lists.{withBlock};
 ghost use Rattle.evc_def.specs.Codes.{firstOf, blockChecks};
 ghost use Rattle.evc_plane.specs.Planes.{sideOf, strideOf, planeLen};
 ghost use Rattle.evc_util.specs.Direct.{getMvDir};
-ghost use Rattle.evc_filter.specs.Code.{isRowWidth};
+ghost use Rattle.evc_lanes.specs.Code.{isRowWidth};
 ghost use Rattle.evc_mc.specs.Block.{luma, cb, cr, refPicList, predLen, mc2Code, withSamples, firstSample};
 ghost use Rattle.evc_mc.specs.Steps.{blockSample};
 ghost use Rattle.evc_record.specs.Record.{planes, pictureShort, source, blockOf, pocsOf, motionOf, list0Of, list1Of, blank, formCode, recordCode, placeIn, withPicture};

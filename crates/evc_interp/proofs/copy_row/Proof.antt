@@ -5,7 +5,7 @@ use native.Mathlib.Omega.{arith}
 use lib.ListN.{length, getD}
 use Rattle.evc_int.specs.Lists.{withRow}
 use Rattle.evc_int.proofs.Lists.{row-done}
-use Rattle.evc_filter.proofs.Lanes.{eights}
+use Rattle.evc_lanes.proofs.Lanes.{eights}
 use Rattle.evc_interp.proofs.Paths.{copied, copied-more}
 use Rattle.evc_interp.proofs.copy_row.Statement.{statement}
 use Rattle.evc_interp.proofs.copy_row.Tie as tie

@@ -9,15 +9,16 @@ use lib.ListN.{length}
 use Rattle.evc_int.specs.Lists.{withBlock}
 use Rattle.evc_int.proofs.Lists.{columns-none, columns-done, row-fits}
 use Rattle.evc_filter.specs.Filter.{interpolated}
-use Rattle.evc_filter.specs.Code.{oneAt, offsetsOf, Ordered, Small, Bounded}
-use Rattle.evc_filter.proofs.Lanes.{as-wide}
-use Rattle.evc_interp.proofs.Paths.{stepOf, one-asks, one-gives, group-step, full}
+use Rattle.evc_filter.specs.Code.{singleAt, offsetsOf}
+use Rattle.evc_blocks.specs.Code.{Rows}
+use Rattle.evc_blocks.proofs.Rows.{as-wide}
+use Rattle.evc_interp.proofs.Paths.{stepOf, single-asks, single-gives, group-step, full}
 use Rattle.evc_interp.proofs.evc_mc_one.Statement.{statement}
 use Rattle.evc_interp.proofs.evc_mc_one.Tie as tie
 
 abbrev Inv-loop : tie.InvT-loop
 Inv-loop s at stride across w h phase pred₀ o taps cg₀ pred cg =
-    (cg ≤ w) × (cg % 8 ≡ 0) × (length pred ≡ length pred₀) × (pred ≡ withBlock pred₀ 0 w cg h (λ (y x : ℕ). oneAt s (at + y * stride + x) o taps))
+    (cg ≤ w) × (cg % 8 ≡ 0) × (length pred ≡ length pred₀) × (pred ≡ withBlock pred₀ 0 w cg h (λ (y x : ℕ). singleAt s (at + y * stride + x) o taps))
 
 abbrev μ-loop : tie.MeasureT-loop
 μ-loop s at stride across w h phase pred₀ o taps cg₀ pred cg = w - cg
@@ -36,48 +37,48 @@ select-small false r stride e l = omega arith
 first-row : (s : tie.Start Inv-loop μ-loop) → s .args .at + s .args .w < 18446744073709551616
 first-row s = omega (arith, row-fits (s .args .stride) (s .pre .1 .0 .2))
 
-one-narrow-requires : tie.Need-one-narrow-requires Inv-loop μ-loop
-one-narrow-requires c κs =
+single-narrow-requires : tie.Need-single-narrow-requires Inv-loop μ-loop
+single-narrow-requires c κs =
     let t = c .before in
     let p = t .before in
     let s = start p in
     let a = s .args in
     let q = s .pre .1 .0 in
     let z : a .at ≡ a .at + 0 = omega arith in
-    let r = one-asks (a .t) (a .s .now) (a .at) (a .stride) (a .w) (a .h) (a .across) (s .pre .1 .1) (a .phase) 0 (a .w) (a .at) (a .pred .now) _ _ (o-is p) (p .taps-of .ensures) (q .3) (omega arith) z (s .pre .0 .0) (s .pre .0 .1) in
-    ((r .0 .0, s .pre .0 .1, q .0, t .if1 .taken, r .0 .2, r .0 .3), r .1)
+    let r = single-asks (a .t) (a .s .now) (a .at) (a .stride) (a .w) (a .h) (a .across) (s .pre .1 .1) (a .phase) 0 (a .w) (a .at) (a .pred .now) _ _ (o-is p) (p .taps-of .ensures) (q .3) (omega arith) z (s .pre .0 .0) (s .pre .0 .1) in
+    (r .0, s .pre .0 .1, q .0, t .if1 .taken)
 
-gives : (p : tie.After-taps-of Inv-loop μ-loop) → let a = start p .args in withBlock (a .pred .now) 0 (a .w) (a .w) (a .h) (λ (y x : ℕ). oneAt (a .s .now) (a .at + y * a .stride + x) (p .before .offsets-of .result) (p .taps-of .result)) ≡ withBlock (a .pred .now) 0 (a .w) (a .w) (a .h) (λ (y x : ℕ). interpolated (a .t) (a .phase) (a .s .now) (a .at + y * a .stride + x) (stepOf (a .across) (a .stride)))
+gives : (p : tie.After-taps-of Inv-loop μ-loop) → let a = start p .args in withBlock (a .pred .now) 0 (a .w) (a .w) (a .h) (λ (y x : ℕ). singleAt (a .s .now) (a .at + y * a .stride + x) (p .before .offsets-of .result) (p .taps-of .result)) ≡ withBlock (a .pred .now) 0 (a .w) (a .w) (a .h) (λ (y x : ℕ). interpolated (a .t) (a .phase) (a .s .now) (a .at + y * a .stride + x) (stepOf (a .across) (a .stride)))
 gives p =
     let s = start p in
     let a = s .args in
-    one-gives (a .t) (a .s .now) (a .at) (a .stride) (a .w) (a .h) (a .across) (s .pre .1 .1) (a .phase) (s .pre .1 .0 .3) (a .pred .now) _ _ (o-is p) (p .taps-of .ensures)
+    single-gives (a .t) (a .s .now) (a .at) (a .stride) (a .w) (a .h) (a .across) (s .pre .1 .1) (a .phase) (s .pre .1 .0 .3) (a .pred .now) _ _ (o-is p) (p .taps-of .ensures)
 
 returns : tie.Need-returns Inv-loop μ-loop
-returns c = let q = c .before .before in q .one-narrow .ensures ∙ gives (q .before .before .before)
+returns c = let q = c .before .before in q .single-narrow .ensures ∙ gives (q .before .before .before)
 
 -- eight columns from column cg on
 group : (p : tie.After-taps-of Inv-loop μ-loop) → let a = start p .args in (cg i : ℕ) (d : List ℕ) → cg + 8 ≤ a .w → i ≡ a .at + cg → length d ≡ length (a .pred .now)
-    → ((i + a .h * a .stride + 8 + p .before .offsets-of .result .p1 ≤ length (a .s .now) + a .stride) × (cg + a .h * a .w + 8 ≤ length d + a .w) × Ordered (p .before .offsets-of .result) × Small (p .taps-of .result)) × ((y x : ℕ) → y < a .h → x < 8 → Bounded 1023 (a .s .now) (i + y * a .stride + x) (p .before .offsets-of .result))
+    → Rows 1023 8 (a .stride) (a .h) (a .s .now) i (p .before .offsets-of .result) (p .taps-of .result) × (cg + a .h * a .w + 8 ≤ length d + a .w)
 group p cg i d l e m =
     let s = start p in
     let a = s .args in
-    one-asks (a .t) (a .s .now) (a .at) (a .stride) (a .w) (a .h) (a .across) (s .pre .1 .1) (a .phase) cg 8 i d _ _ (o-is p) (p .taps-of .ensures) (s .pre .1 .0 .3) l e (s .pre .0 .0) (omega (arith, m, s .pre .0 .1))
+    single-asks (a .t) (a .s .now) (a .at) (a .stride) (a .w) (a .h) (a .across) (s .pre .1 .1) (a .phase) cg 8 i d _ _ (o-is p) (p .taps-of .ensures) (s .pre .1 .0 .3) l e (s .pre .0 .0) (omega (arith, m, s .pre .0 .1))
 
 eight : (c : tie.Then2 Inv-loop μ-loop) → start (c .before .before) .args .w ≡ 8
 eight c = c .if2 .taken
 
-one-octs-requires : tie.Need-one-octs-requires Inv-loop μ-loop
-one-octs-requires c κs = let p = c .before .before .before in let a = start p .args in let e = eight (c .before) in let z : a .at ≡ a .at + 0 = omega arith in group p 0 (a .at) (a .pred .now) (omega arith) z refl
+single8-rows-requires : tie.Need-single8-rows-requires Inv-loop μ-loop
+single8-rows-requires c κs = let p = c .before .before .before in let a = start p .args in let e = eight (c .before) in let z : a .at ≡ a .at + 0 = omega arith in group p 0 (a .at) (a .pred .now) (omega arith) z refl
 
 returns-2 : tie.Need-returns-2 Inv-loop μ-loop
-returns-2 c = let q = c .before .before in let t = q .before .before in as-wide _ _ _ _ _ _ _ _ (eight t) (q .one-octs .ensures) ∙ gives (t .before .before)
+returns-2 c = let q = c .before .before in let t = q .before .before in as-wide _ _ _ _ _ _ _ _ (eight t) (q .single8-rows .ensures) ∙ gives (t .before .before)
 
 loop-holds : tie.Need-loop-holds Inv-loop μ-loop
 loop-holds c = let a = start (c .before .before) .args in (omega arith, refl, refl, sym (columns-none (a .pred .now) 0 (a .w) (a .h) _))
 
-one-octs-requires-2 : tie.Need-one-octs-requires-2 Inv-loop μ-loop
-one-octs-requires-2 c κs =
+single8-rows-requires-2 : tie.Need-single8-rows-requires-2 Inv-loop μ-loop
+single8-rows-requires-2 c κs =
     let k = c .before in
     let l = k .before .loop in
     let p = k .before .before .before .before in
@@ -93,8 +94,8 @@ loop-again c =
     let t = k .loop-test .taken in (
       t,
       (let e = l .inv .1 in omega arith),
-      q .one-octs2 .kept .1 .1 .1 .1 .1 .1 .0 ∙ l .inv .2,
-      group-step (λ (i : ℕ). oneAt (a .s .now) i (p .before .offsets-of .result) (p .taps-of .result)) _ _ _ _ _ _ _ _ t (l .inv .3) (q .one-octs2 .ensures),
+      q .single8-rows2 .kept .1 .1 .1 .1 .1 .1 .0 ∙ l .inv .2,
+      group-step (λ (i : ℕ). singleAt (a .s .now) i (p .before .offsets-of .result) (p .taps-of .result)) _ _ _ _ _ _ _ _ t (l .inv .3) (q .single8-rows2 .ensures),
     )
 
 returns-3 : tie.Need-returns-3 Inv-loop μ-loop
@@ -114,16 +115,16 @@ evc-mc-one-spec =
     (λ c κs. search needs)
     (λ c κs. let s = c .before .before .before in select-small (s .args .across) _ (s .args .stride) (c .select .ensures) (s .pre .1 .0 .4))
     (λ c κs. c .before .before .before .before .pre .1 .0 .3)
-    one-narrow-requires
-    (λ c. c .before .before .one-narrow .kept .1 .1 .1 .1 .1 .1 .1 .0)
+    single-narrow-requires
+    (λ c. c .before .before .single-narrow .kept .1 .1 .1 .1 .1 .1 .1 .0)
     returns
-    one-octs-requires
-    (λ c. c .before .before .one-octs .kept .1 .1 .1 .1 .1 .1 .0)
+    single8-rows-requires
+    (λ c. c .before .before .single8-rows .kept .1 .1 .1 .1 .1 .1 .0)
     returns-2
     loop-holds
     (λ c. record { fits = let i = c .loop .inv .0 in let m = start (c .before .before .before) .pre .1 .0 .1 in omega arith })
     (λ c. record { fits = let t = c .loop-test .taken in omega (arith, first-row (start (c .before .before .before .before))) })
-    one-octs-requires-2
+    single8-rows-requires-2
     (λ c. record { fits = let k = c .before .before .before .before in let t = k .loop-test .taken in let m = start (k .before .before .before .before) .pre .1 .0 .1 in omega arith })
     (λ c. let k = c .before .before .before .before in let t = k .loop-test .taken in omega arith)
     loop-again
