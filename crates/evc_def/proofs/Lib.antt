@@ -1,4 +1,3 @@
 pub mod Codes
 pub mod SideBits
 pub mod Blocks
-pub mod Tables

@@ -1,6 +1,5 @@
 ghost use mathlib.Core.Path.{_≡_};
 ghost use mathlib.Core.Bool.{not, _&&_};
-ghost use mathlib.Core.List.{[]};
 ghost use Prim.Native.Nat.{ℕ, _+_, _*_, _/_, _<_, _^_};
 ghost use lib.Dec.{leb};
 ghost use lib.ListN.{getD};
@@ -11,7 +10,7 @@ ghost use mir.Val.{SFits};
 ghost use Rattle.evc_int.specs.Whole.{clip3};
 ghost use Rattle.evc_def.specs.Blocks.{isPictureSide, isBlockSide, badPicture, badBlock};
 ghost use Rattle.evc_def.specs.Codes.{firstOf, blockChecks};
-ghost use Rattle.evc_def.specs.Tables.{tblCuDimOffset, tblMcLCoeff, tblMcCCoeff, isBit, isCoded, isIntra};
+ghost use Rattle.evc_def.specs.Tables.{tblCuDimOffset, isBit, isCoded, isIntra};
 
 // ---- def.rs: numbers
 
@@ -95,27 +94,9 @@ impl MCU {
     }
 }
 
-// ---- tbl.rs and mc.rs: tables
+// ---- tbl.rs: a table. The filters of mc.rs are in evc_filter.
 
 const tbl_cu_dim_offset: [usize; 3] = [0, MAX_CU_DIM, MAX_CU_DIM + (MAX_CU_DIM >> 2)];
-
-const tbl_mc_l_coeff: [[i32; 6]; 4] = [
-    [0, 0, 64, 0, 0, 0],
-    [1, -5, 52, 20, -5, 1],
-    [2, -10, 40, 40, -10, 2],
-    [1, -5, 20, 52, -5, 1],
-];
-
-const tbl_mc_c_coeff: [[i32; 4]; 8] = [
-    [0, 64, 0, 0],
-    [-2, 58, 10, -2],
-    [-4, 52, 20, -4],
-    [-6, 46, 30, -6],
-    [-8, 40, 40, -8],
-    [-6, 30, 46, -6],
-    [-4, 20, 52, -4],
-    [-2, 10, 58, -2],
-];
 
 // Where plane `c` (Y, U, V) begins in a lent block.
 pub fn cu_dim_offset(c: usize) -> usize
@@ -123,20 +104,6 @@ pub fn cu_dim_offset(c: usize) -> usize
     ensures { λ r. ⌜ r ≡ getD tblCuDimOffset c 0 ⌝ }
 {
     tbl_cu_dim_offset[c]
-}
-
-pub fn mc_l_coeff(dx: usize) -> [i32; 6]
-    requires { ⌜ dx < 4 ⌝ }
-    ensures { λ r. ⌜ r ≡ getD tblMcLCoeff dx [] ⌝ }
-{
-    tbl_mc_l_coeff[dx]
-}
-
-pub fn mc_c_coeff(dx: usize) -> [i32; 4]
-    requires { ⌜ dx < 8 ⌝ }
-    ensures { λ r. ⌜ r ≡ getD tblMcCCoeff dx [] ⌝ }
-{
-    tbl_mc_c_coeff[dx]
 }
 
 // ---- places: whole samples, quarter samples and units of four samples are three types
