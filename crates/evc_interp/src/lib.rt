@@ -18,68 +18,53 @@ use evc_plane::PlaneType;
 
 // ---- the four paths, by the directions that are filtered: across and down
 
-fn copy_oct(s: &[u16], at: usize, d: &mut [u16], to: usize)
+fn copy8(s: &[u16], at: usize, d: &mut [u16], to: usize)
     requires { ⌜ (at + 8 ≤ length (now s)) × (to + 8 ≤ length (now d)) ⌝ }
     ensures { λ _. ⌜ now (d .exit) ≡ withRow (now (d .entry)) to 8 (λ (x : ℕ). getD (now (s .entry)) (at + x) 0) ⌝ }
 {
-    let v0 = s[at];
-    let v1 = s[at + 1];
-    let v2 = s[at + 2];
-    let v3 = s[at + 3];
-    let v4 = s[at + 4];
-    let v5 = s[at + 5];
-    let v6 = s[at + 6];
-    let v7 = s[at + 7];
-    d[to] = v0;
-    d[to + 1] = v1;
-    d[to + 2] = v2;
-    d[to + 3] = v3;
-    d[to + 4] = v4;
-    d[to + 5] = v5;
-    d[to + 6] = v6;
-    d[to + 7] = v7;
+    evc_lanes::put8(
+        d,
+        to,
+        s[at],
+        s[at + 1],
+        s[at + 2],
+        s[at + 3],
+        s[at + 4],
+        s[at + 5],
+        s[at + 6],
+        s[at + 7],
+    );
 }
 
-fn copy_quad(s: &[u16], at: usize, d: &mut [u16], to: usize)
+fn copy4(s: &[u16], at: usize, d: &mut [u16], to: usize)
     requires { ⌜ (at + 4 ≤ length (now s)) × (to + 4 ≤ length (now d)) ⌝ }
     ensures { λ _. ⌜ now (d .exit) ≡ withRow (now (d .entry)) to 4 (λ (x : ℕ). getD (now (s .entry)) (at + x) 0) ⌝ }
 {
-    let v0 = s[at];
-    let v1 = s[at + 1];
-    let v2 = s[at + 2];
-    let v3 = s[at + 3];
-    d[to] = v0;
-    d[to + 1] = v1;
-    d[to + 2] = v2;
-    d[to + 3] = v3;
+    evc_lanes::put4(d, to, s[at], s[at + 1], s[at + 2], s[at + 3]);
 }
 
-fn copy_pair(s: &[u16], at: usize, d: &mut [u16], to: usize)
+fn copy2(s: &[u16], at: usize, d: &mut [u16], to: usize)
     requires { ⌜ (at + 2 ≤ length (now s)) × (to + 2 ≤ length (now d)) ⌝ }
     ensures { λ _. ⌜ now (d .exit) ≡ withRow (now (d .entry)) to 2 (λ (x : ℕ). getD (now (s .entry)) (at + x) 0) ⌝ }
 {
-    let v0 = s[at];
-    let v1 = s[at + 1];
-    d[to] = v0;
-    d[to + 1] = v1;
+    evc_lanes::put2(d, to, s[at], s[at + 1]);
 }
 
-// All samples of a lane are read before one is written, so that each is one vector.
 pub fn copy_row(s: &[u16], n: usize, d: &mut [u16], to: usize)
     requires { ⌜ (n ≤ length (now s)) × (to + n ≤ length (now d)) × (isRowWidth n ≡ true) ⌝ }
     ensures { λ _. ⌜ now (d .exit) ≡ withRow (now (d .entry)) to n (λ (x : ℕ). getD (now (s .entry)) x 0) ⌝ }
 {
     if n == 4 {
-        copy_quad(s, 0, d, to);
+        copy4(s, 0, d, to);
         return;
     }
     if n == 2 {
-        copy_pair(s, 0, d, to);
+        copy2(s, 0, d, to);
         return;
     }
     let mut x = 0;
     while x + 8 <= n {
-        copy_oct(s, x, d, to + x);
+        copy8(s, x, d, to + x);
         x += 8;
     }
 }

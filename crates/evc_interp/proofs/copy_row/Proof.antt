@@ -23,10 +23,10 @@ ends : (s : tie.Start Inv-loop μ-loop) → (s .args .n + 8 < 184467440737095516
 ends s = (omega arith, omega arith)
 
 returns : tie.Need-returns Inv-loop μ-loop
-returns c = let q = c .before .before in let a = q .before .before .before .before .before .args in copied (a .d .now) _ (a .s .now) (a .to) (a .n) 4 (q .before .before .if1 .taken) (q .copy-quad .ensures)
+returns c = let q = c .before .before in let a = q .before .before .before .before .before .args in copied (a .d .now) _ (a .s .now) (a .to) (a .n) 4 (q .before .before .if1 .taken) (q .copy4 .ensures)
 
 returns-2 : tie.Need-returns-2 Inv-loop μ-loop
-returns-2 c = let q = c .before .before in let a = start (q .before .before .before) .args in copied (a .d .now) _ (a .s .now) (a .to) (a .n) 2 (q .before .before .if2 .taken) (q .copy-pair .ensures)
+returns-2 c = let q = c .before .before in let a = start (q .before .before .before) .args in copied (a .d .now) _ (a .s .now) (a .to) (a .n) 2 (q .before .before .if2 .taken) (q .copy2 .ensures)
 
 loop-holds : tie.Need-loop-holds Inv-loop μ-loop
 unfolding withRow
@@ -39,8 +39,8 @@ loop-again c =
     let i = k .before .loop .inv in (
       (let t = k .loop-test .taken in omega arith),
       (let m = i .1 in omega arith),
-      q .copy-oct .kept .1 .1 .0 ∙ i .2,
-      copied-more _ _ _ (start (k .before .before .before) .args .s .now) _ _ (i .3) (q .copy-oct .ensures),
+      q .copy8 .kept .1 .1 .0 ∙ i .2,
+      copied-more _ _ _ (start (k .before .before .before) .args .s .now) _ _ (i .3) (q .copy8 .ensures),
     )
 
 returns-3 : tie.Need-returns-3 Inv-loop μ-loop
@@ -57,10 +57,10 @@ copy-row-spec =
     Inv-loop
     μ-loop
     (λ c κs. let e = c .before .if1 .taken in omega arith)
-    (λ c. c .before .before .copy-quad .kept .1 .1 .0)
+    (λ c. c .before .before .copy4 .kept .1 .1 .0)
     returns
     (λ c κs. let e = c .before .if2 .taken in omega arith)
-    (λ c. c .before .before .copy-pair .kept .1 .1 .0)
+    (λ c. c .before .before .copy2 .kept .1 .1 .0)
     returns-2
     loop-holds
     (λ c. record { fits = let i = c .loop .inv in omega (arith, ends (start (c .before .before))) })
