@@ -44,7 +44,7 @@ second-block-requires c κs =
     let r = lanes-rows (a .n) (a .h) (a .w) _ _ (rows s) (p .1) (s .pre .1 .1 .0) (e .select .ensures) (w .select2 .ensures) in
     rw (c .before .before .offsets-of2 .ensures, c .before .taps-of2 .ensures)
     (second-asks (a .t) (a .s .now) (a .m .now) (a .at) (a .stride) (a .n) (a .h) (a .dx) (p .4) (s .pre .1 .1 .1) (p .1) (p .6) _ _ _ _ (f .before .before .before .rows-more .ensures) (f .before .before .offsets-of .ensures) (f .before .taps-of .ensures)
-    (e .before .before .before .first-block .ensures) _ _ (r .0) (r .1) (a .pred .now) (a .to) _ (a .dy) _ (p .5) (f .before .before .before .before .unit .ensures)
+    (e .before .before .before .first-block .ensures) _ _ (r .0) (r .1) (a .pred .now) (a .to) _ _ _ (let l = p .5 in omega arith) (f .before .before .before .before .unit .ensures)
     (lanes-room (a .n) (a .h) (a .w) _ _ (rows s) (p .1) (s .pre .1 .1 .0) (e .select .ensures) (w .select2 .ensures) (a .to) _ (s .pre .0 .1)))
 
 returns : tie.Need-returns
@@ -59,7 +59,7 @@ returns c =
     let p = s .pre .1 .0 in
     q .second-block .ensures
     ∙ second-done (a .t) (a .s .now) (a .m .now) (a .at) (a .stride) (a .n) (a .h) (a .dx) (p .4) (s .pre .1 .1 .1) (p .1) (p .6) _ _ _ _ (f .before .before .before .rows-more .ensures) (f .before .before .offsets-of .ensures) (f .before .taps-of .ensures)
-    (e .before .before .before .first-block .ensures) (a .w) _ _ (rows s) (s .pre .1 .1 .0) (e .select .ensures) (w .select2 .ensures) (a .pred .now) (a .to) (a .dy) _ _ (u .before .before .offsets-of2 .ensures) (u .before .taps-of2 .ensures) (p .5)
+    (e .before .before .before .first-block .ensures) (a .w) _ _ (rows s) (s .pre .1 .1 .0) (e .select .ensures) (w .select2 .ensures) (a .pred .now) (a .to) _ _ _ (u .before .before .offsets-of2 .ensures) (u .before .taps-of2 .ensures) (let l = p .5 in omega arith)
 
 pub columns-spec : {M : Type 1} → statement M
 columns-spec =
@@ -77,7 +77,7 @@ columns-spec =
     (λ c. record { fits = omega (arith, count (start (second (c .before .before)))) })
     (λ c. some-lanes (c .before .before))
     (λ c κs. let p = start (second (c .before .before)) .pre .1 .0 .1 in omega arith)
-    (λ c κs. start (second (c .before .before .before)) .pre .1 .0 .5)
+    (λ c κs. let l = start (second (c .before .before .before)) .pre .1 .0 .5 in omega arith)
     second-block-requires
     (λ c. search needs)
     (λ c. search needs)
