@@ -7,6 +7,7 @@ ghost use Rattle.evc_util.specs.Candidates.{getMotion};
 ghost use Rattle.evc_plane.specs.Padding.{padCode, padAfter};
 ghost use Rattle.evc_interp.specs.Prediction.{mcPlaneCode, mcPlaneAfter};
 ghost use Rattle.evc_mc.specs.Block.{refPicList, mc2Code, mc2First, mc2Second};
+ghost use Rattle.evc_inter.specs.Code.{blank};
 ghost use Rattle.evc_inter.specs.Kinds.{planeType};
 ghost use Rattle.evc_camera.specs.Camera.{cameraMotion};
 ghost use Rattle.evc_trace.specs.Format.{writeHeaderCode, writeHeaderAfter, writeRecordCode, writeRecordAfter};
@@ -23,6 +24,7 @@ use evc_trace::EvcTraceRecord;
 use evc_util::EvcAvail;
 use evc_util::EvcCandidates;
 use evc_util::EvcDirect;
+use evc_util::Motion;
 use evc_util::Pocs;
 
 fn plane_type(chroma: bool) -> PlaneType
@@ -78,7 +80,29 @@ pub extern "C" fn evc_mv_clip(block: EvcBlock, mv: EvcMv) -> EvcClipped
     evc_clip::mv_clip(block, mv)
 }
 
-// The four candidates of a list, into the record lent.
+// The candidates over a blank record: what the lent one is set to.
+fn found_motion(
+    block: EvcBlock,
+    lidx: u32,
+    avail: u16,
+    map_mv: &[i16],
+    has_col: bool,
+    col_mv: &[i16],
+) -> Motion
+    ensures { λ r. ⌜ r ≡ getMotion block lidx avail (now («map_mv» .entry)) «has_col» (now («col_mv» .entry)) blank ⌝ }
+{
+    let zero = EvcMv { x: 0, y: 0 };
+    let blank = EvcCandidates {
+        left: zero,
+        up: zero,
+        up_right: zero,
+        collocated: zero,
+        refi: [0; 4],
+    };
+    evc_util::get_motion(block, lidx, avail, map_mv, has_col, col_mv, blank)
+}
+
+// The four candidates of a list, into the record lent. After a refusal nothing is stored.
 #[no_mangle]
 pub extern "C" fn evc_get_motion(
     block: EvcBlock,
@@ -92,9 +116,18 @@ pub extern "C" fn evc_get_motion(
     ensures code { λ r. ⌜ r ≡ (getMotion block lidx avail (now («map_mv» .entry)) «has_col» (now («col_mv» .entry)) (now (cand .entry))) .code ⌝ }
     ensures record { λ _. ⌜ now (cand .exit) ≡ (getMotion block lidx avail (now («map_mv» .entry)) «has_col» (now («col_mv» .entry)) (now (cand .entry))) .cand ⌝ }
 {
-    let r = evc_util::get_motion(block, lidx, avail, map_mv, has_col, col_mv, *cand);
-    *cand = r.cand;
-    r.code
+    let found = found_motion(block, lidx, avail, map_mv, has_col, col_mv);
+    if found.code != 0 {
+        return found.code;
+    }
+    cand.left = found.cand.left;
+    cand.up = found.cand.up;
+    cand.up_right = found.cand.up_right;
+    cand.refi = [0; 4];
+    if has_col {
+        cand.collocated = found.cand.collocated;
+    }
+    0
 }
 
 // The prediction of a block of one plane.
