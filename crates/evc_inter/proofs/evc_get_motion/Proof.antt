@@ -161,8 +161,8 @@ stored-is f v gf gv =
     let of-f = LL.owed T.the-type T′.the-laws f (vals f) gf in
     LL.owes T.the-type T′.the-laws (stored f v) (of-f .0, (of-f .1 .0, (of-f .1 .1 .0, (gv, ((vint w8 0 ∷ vint w8 0 ∷ vint w8 0 ∷ vint w8 0 ∷ [], ((refl, refl), ((refl, lit< tt), ((refl, lit< tt), ((refl, lit< tt), ((refl, lit< tt), tt)))))), tt)))))
 
-zero-fits : Fits w8 0
-zero-fits = record { fits = lit< tt }
+byte : {n : ℕ} → n < 2 ^ 8 → Fits w8 n
+byte lt = record { fits = lt }
 
 -- a vector's machine value is one of its type
 mv-typed : {M : Type 1} (𝓤 : URA M) (H : Heap 𝓤) (A : Atoms 𝓤) (W : Given 𝓤 H A) (v : EvcMv) → Is Mv.the-row v (LL.vals Mv.the-type Mv′.the-laws v) → So (hasTy Mv′.mir (LL.val Mv.the-type Mv′.the-laws v)) × WT (LL.val Mv.the-type Mv′.the-laws v)
@@ -324,7 +324,7 @@ module _ {M : Type 1} (𝓤 : URA M) (H : Heap 𝓤) (A : Atoms 𝓤) (W : Given
             assigns ! (of-opd ! (load ! (from ! (fld ! refl (fld ! refl (stop !)))) (look-in ! 8 (sub ! 0 refl (sub ! 1 refl (whole !)))))) (from ! (hop ! (look ! 10 refl) (fld ! refl (stop !)))) (store-in ! 0 (sub ! 0 refl (whole !)) (mv-typed 𝓤 H A W (r .cand .left) (new .0))) $
             assigns ! (of-opd ! (load ! (from ! (fld ! refl (fld ! refl (stop !)))) (look-in ! 8 (sub ! 1 refl (sub ! 1 refl (whole !)))))) (from ! (hop ! (look ! 10 refl) (fld ! refl (stop !)))) (store-in ! 0 (sub ! 1 refl (whole !)) (mv-typed 𝓤 H A W (r .cand .up) (new .1 .0))) $
             assigns ! (of-opd ! (load ! (from ! (fld ! refl (fld ! refl (stop !)))) (look-in ! 8 (sub ! 2 refl (sub ! 1 refl (whole !)))))) (from ! (hop ! (look ! 10 refl) (fld ! refl (stop !)))) (store-in ! 0 (sub ! 2 refl (whole !)) (mv-typed 𝓤 H A W (r .cand .«up_right») (new .1 .1 .0))) $
-            assigns ! (rep ! 4 (lit ! tt)) (from ! (hop ! (look ! 10 refl) (fld ! refl (stop !)))) (store-in ! 0 (sub ! 4 refl (whole !)) (tt, (zero-fits, (zero-fits, (zero-fits, (zero-fits, tt)))))) $
+            assigns ! (rep ! 4 (lit ! tt)) (from ! (hop ! (look ! 10 refl) (fld ! refl (stop !)))) (store-in ! 0 (sub ! 4 refl (whole !)) (tt, (byte (lit< tt), (byte (lit< tt), (byte (lit< tt), (byte (lit< tt), tt)))))) $
             assigns ! (of-opd ! (load ! (from ! (stop !)) (look ! 14 refl))) (from ! (stop !)) (store ! 6 refl (tt, tt)) $
             first ! $ branches ! (load ! (from ! (stop !)) (look ! 6 refl))
             (λ there. assigns-last ! (of-opd ! (load ! (from ! (fld ! refl (fld ! refl (stop !)))) (look-in ! 8 (sub ! 3 refl (sub ! 1 refl (whole !)))))) (from ! (hop ! (look ! 10 refl) (fld ! refl (stop !)))) (store-in ! 0 (sub ! 3 refl (whole !)) (mv-typed 𝓤 H A W (r .cand .collocated) (new .1 .1 .1 .0))) $
