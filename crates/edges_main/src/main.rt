@@ -128,11 +128,11 @@ fn print_vectors(b: EvcBlock) {
 fn print_padding(b: EvcBlock, luma: &mut [u16], chroma: &mut [u16]) {
     print(
         b" padding luma ",
-        evc_plane::pad(PlaneType::Y, b.pic_w, b.pic_h, luma),
+        evc_pad::pad(PlaneType::Y, b.pic_w, b.pic_h, luma),
     );
     print(
         b", padding chroma ",
-        evc_plane::pad(PlaneType::UV, b.pic_w, b.pic_h, chroma),
+        evc_pad::pad(PlaneType::UV, b.pic_w, b.pic_h, chroma),
     );
 }
 

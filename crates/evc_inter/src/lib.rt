@@ -4,7 +4,7 @@ ghost use Rattle.evc_clip.specs.Clip.{mvClip};
 ghost use Rattle.evc_util.specs.Flags.{getAvailInter};
 ghost use Rattle.evc_util.specs.Direct.{getMvDir};
 ghost use Rattle.evc_util.specs.Candidates.{getMotion};
-ghost use Rattle.evc_plane.specs.Padding.{padCode, padAfter};
+ghost use Rattle.evc_pad.specs.Padding.{padCode, padAfter};
 ghost use Rattle.evc_interp.specs.Prediction.{mcPlaneCode, mcPlaneAfter};
 ghost use Rattle.evc_mc.specs.Block.{refPicList, mc2Code, mc2First, mc2Second};
 ghost use Rattle.evc_inter.specs.Code.{blank};
@@ -39,7 +39,7 @@ pub extern "C" fn evc_pad(chroma: bool, pic_w: u32, pic_h: u32, plane: &mut [u16
     ensures { λ r. ⌜ r ≡ padCode (planeType chroma) «pic_w» «pic_h» (now (plane .entry)) ⌝ }
     ensures { λ _. ⌜ now (plane .exit) ≡ padAfter (planeType chroma) «pic_w» «pic_h» (now (plane .entry)) ⌝ }
 {
-    evc_plane::pad(plane_type(chroma), pic_w, pic_h, plane)
+    evc_pad::pad(plane_type(chroma), pic_w, pic_h, plane)
 }
 
 // Neighbour flags.

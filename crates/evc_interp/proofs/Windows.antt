@@ -1,6 +1,6 @@
 -- Every path reads only what was examined: its clamped window lies in that of both directions. Assumes nothing.
 use Rattle.evc_plane.specs.declared.PlaneConfig.{PlaneConfig}
-use Rattle.evc_plane.specs.Samples.{exceeds}
+use Rattle.evc_samples.specs.Samples.{exceeds}
 use mathlib.Core.Bool.{Bool, true, false, cond, not, _&&_, _||_}
 use mathlib.Core.List.{List}
 use mathlib.Core.Logic.{⊎-elim}
@@ -26,8 +26,8 @@ use Rattle.evc_def.proofs.Codes.{accepted, or-yes}
 use Rattle.evc_plane.specs.declared.PlaneType.{PlaneType}
 use Rattle.evc_plane.specs.declared.PlaneType.the-variants.{Y, UV}
 use Rattle.evc_plane.specs.Planes.{padOf, originOf, sideOf, strideOf, planeLen, configOf, startAt, windowStart}
-use Rattle.evc_plane.proofs.Laws.{window-fits}
-use Rattle.evc_plane.proofs.Samples.{exceeds-none}
+use Rattle.evc_plane.proofs.Starts.{window-fits}
+use Rattle.evc_samples.proofs.Samples.{exceeds-none}
 use Rattle.evc_plane.proofs.Sizes.{sizes}
 use Rattle.evc_filter.specs.Filter.{phases, lead, reach, interpolated, interpolatedTwice}
 use Rattle.evc_lanes.specs.Code.{isRowWidth}

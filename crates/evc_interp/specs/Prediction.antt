@@ -12,7 +12,7 @@ use Rattle.evc_def.specs.Blocks.{isBlockSide, badPicture}
 use Rattle.evc_def.specs.Codes.{Check, _when_, firstOf}
 use Rattle.evc_def.specs.declared.EvcMv.{EvcMv}
 use Rattle.evc_plane.specs.Planes.{strideOf, planeLen, windowStart}
-use Rattle.evc_plane.specs.Samples.{exceeds}
+use Rattle.evc_samples.specs.Samples.{exceeds}
 use Rattle.evc_filter.specs.Filter.{phases, lead, reach, interpolated, interpolatedTwice}
 use Rattle.evc_plane.specs.declared.PlaneType.{PlaneType}
 use Rattle.evc_plane.specs.declared.PlaneType.the-variants.{Y, UV}

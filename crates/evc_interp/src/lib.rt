@@ -394,7 +394,7 @@ pub fn window_exceeds(
 {
     let c = evc_plane::plane_config(t, pic_w, pic_h);
     let more = rows_more(t);
-    evc_plane::window_exceeds(
+    evc_samples::window_exceeds(
         plane,
         window(t, pic_w, pic_h, true, true, gmv),
         c.stride,
@@ -423,8 +423,8 @@ pub fn windows_exceed(
     let at = window(t, pic_w, pic_h, true, true, gmv);
     let n = w as usize + more;
     let m = h as usize + more;
-    evc_plane::window_exceeds(u, at, c.stride, n, m)
-        | evc_plane::window_exceeds(v, at, c.stride, n, m)
+    evc_samples::window_exceeds(u, at, c.stride, n, m)
+        | evc_samples::window_exceeds(v, at, c.stride, n, m)
 }
 
 fn is_short(t: PlaneType, pic_w: u32, pic_h: u32, w: u32, h: u32, plane: usize, pred: usize) -> bool

@@ -16,10 +16,10 @@ use Rattle.evc_def.specs.declared.EvcBlock.{EvcBlock}
 use Rattle.evc_def.proofs.Blocks.{allowed-block}
 use Rattle.evc_def.proofs.Codes.{accepted, passed, none, goes-on, both-accepted}
 use Rattle.evc_clip.specs.Clip.{clippedPlace}
-use Rattle.evc_plane.specs.Padding.{padded}
+use Rattle.evc_pad.specs.Padding.{padded}
 use Rattle.evc_plane.specs.Planes.{strideOf, planeLen}
-use Rattle.evc_plane.proofs.Laws.{accepts, after, padded-length, reference-small}
-use Rattle.evc_plane.proofs.Samples.{none-exceeds}
+use Rattle.evc_pad.proofs.Laws.{accepts, after, padded-length, reference-small}
+use Rattle.evc_samples.proofs.Samples.{none-exceeds}
 use Rattle.evc_filter.specs.Filter.{reach}
 use Rattle.evc_interp.specs.Prediction.{windowOf, windowExceeds}
 use Rattle.evc_int.proofs.Bools.{none-true, and-false-right}

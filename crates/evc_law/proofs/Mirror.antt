@@ -14,7 +14,7 @@ use Rattle.evc_def.proofs.Blocks.{allowed-block, allowed-mirror, accepted-at}
 use Rattle.evc_plane.specs.declared.PlaneType.{PlaneType}
 use Rattle.evc_plane.specs.declared.PlaneType.the-variants.{Y, UV}
 use Rattle.evc_plane.specs.Planes.{sideOf, sampleAt, referenceOf}
-use Rattle.evc_plane.proofs.Laws.{reference-left-right, reference-top-bottom}
+use Rattle.evc_plane.proofs.Reference.{reference-left-right, reference-top-bottom}
 use Rattle.evc_filter.specs.Filter.{phases}
 use Rattle.evc_clip.specs.Clip.{clipComponent, clipMv, clippedPlace}
 use Rattle.evc_clip.proofs.Laws.{placeOf, clipped-mirror}

@@ -20,11 +20,11 @@ use Rattle.evc_def.specs.declared.EvcBlock.{EvcBlock}
 use Rattle.evc_def.specs.declared.EvcMv.{EvcMv}
 use Rattle.evc_clip.specs.Clip.{margin, clipComponent, clipMv, clippedPlace}
 use Rattle.evc_clip.proofs.Laws.{lastPlace, clipped-place}
-use Rattle.evc_plane.specs.Padding.{padded, padCode, padAfter}
+use Rattle.evc_pad.specs.Padding.{padded, padCode, padAfter}
 use Rattle.evc_plane.specs.Planes.{sideOf, padOf, strideOf, referenceOf}
 use Rattle.evc_plane.specs.declared.PlaneType.{PlaneType}
 use Rattle.evc_plane.specs.declared.PlaneType.the-variants.{Y, UV}
-use Rattle.evc_plane.proofs.Laws.{window-reads-reference, reference-small, accepts, after}
+use Rattle.evc_pad.proofs.Laws.{window-reads-reference, reference-small, accepts, after}
 use Rattle.evc_filter.specs.Filter.{taps, lead, reach, tapSum, along, singleStage, firstStage, secondStage, interpolated, rowStage, interpolatedTwice}
 use Rattle.evc_filter.proofs.Tables.{shape}
 use Rattle.evc_interp.specs.Prediction.{phaseOf, placeOf, isFiltered, startOf, windowOf, sampleBy, predicted}

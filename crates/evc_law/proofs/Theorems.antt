@@ -18,7 +18,7 @@ use Rattle.evc_def.specs.declared.EvcMv.{EvcMv}
 use Rattle.evc_def.proofs.Blocks.{allowed-block}
 use Rattle.evc_clip.specs.Clip.{clipMv, clippedPlace}
 use Rattle.evc_plane.specs.Planes.{sideOf, sampleAt, referenceOf}
-use Rattle.evc_plane.proofs.Laws.{reference-agree}
+use Rattle.evc_plane.proofs.Reference.{reference-agree}
 use Rattle.evc_mc.specs.declared.EvcList.{EvcList}
 use Rattle.evc_mc.specs.Block.{RefPicList, Component, typeOf, offsetOf, widthOf, heightOf, withSamples, listSample, sameMotion, isBi, average, firstSample, mc2Code, mc2First}
 use Rattle.evc_law.specs.General.{general}

@@ -8,9 +8,9 @@ use borrow.Author.Tests.{le-ltb}
 use Rattle.evc_def.specs.Blocks.{badPicture, badBlock}
 use Rattle.evc_def.specs.Codes.{firstOf}
 use Rattle.evc_def.proofs.Codes.{passed, none}
-use Rattle.evc_plane.specs.Padding.{padCode, padAfter}
+use Rattle.evc_pad.specs.Padding.{padCode, padAfter}
 use Rattle.evc_plane.specs.Planes.{sideOf, strideOf, planeLen, firstSample}
-use Rattle.evc_plane.proofs.Samples.{none-exceeds}
+use Rattle.evc_samples.proofs.Samples.{none-exceeds}
 use Rattle.evc_mc.specs.Block.{RefPicList, Component, luma, cb, cr, typeOf, planeOf, predLen}
 use Rattle.evc_def.specs.declared.EvcMv.{EvcMv}
 use Rattle.evc_law.specs.Demand3.{Premises, Accepted, flatPicture, flatList, witness, Witness}

@@ -10,7 +10,7 @@ use Rattle.evc_int.specs.Whole.{−_}
 use Rattle.evc_def.specs.declared.EvcBlock.{EvcBlock}
 use Rattle.evc_def.specs.declared.EvcMv.{EvcMv}
 use Rattle.evc_plane.specs.Planes.{sideOf, planeLen, sampleAt, referenceOf}
-use Rattle.evc_plane.specs.Padding.{padCode, padAfter}
+use Rattle.evc_pad.specs.Padding.{padCode, padAfter}
 use Rattle.evc_clip.specs.Clip.{clippedPlace}
 use Rattle.evc_mc.specs.declared.EvcList.{EvcList}
 use Rattle.evc_mc.specs.Block.{RefPicList, refPicList, Component, luma, cb, cr, typeOf, planeOf, offsetOf, widthOf, heightOf, predLen, mc2Code, mc2First}

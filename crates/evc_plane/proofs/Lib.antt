@@ -1,6 +1,3 @@
-pub mod Rows
-pub mod Samples
-pub mod Lanes
 pub mod Sizes
-pub mod Padding
-pub mod Laws
+pub mod Starts
+pub mod Reference

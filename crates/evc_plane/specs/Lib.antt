@@ -1,4 +1,1 @@
 pub mod Planes
-pub mod Samples
-pub mod Padding
-pub mod Code

@@ -127,12 +127,12 @@ fn hold(luma: &mut [u16], is_row: bool, line: usize) {
 // The wide picture, and the high one, padded.
 fn hold_column(luma: &mut [u16], column: usize) {
     hold(luma, false, column);
-    evc_plane::pad(PlaneType::Y, 64, 8, luma);
+    evc_pad::pad(PlaneType::Y, 64, 8, luma);
 }
 
 fn hold_row(luma: &mut [u16], row: usize) {
     hold(luma, true, row);
-    evc_plane::pad(PlaneType::Y, 8, 64, luma);
+    evc_pad::pad(PlaneType::Y, 8, 64, luma);
 }
 
 fn part(pic_w: u32, pic_h: u32, x: u32, y: u32, w: u32, h: u32) -> EvcBlock {

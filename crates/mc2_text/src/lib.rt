@@ -253,7 +253,7 @@ pub fn fill_plane(
     pad_text::scatter(plane, n, seed);
     pad_text::reduce_row(plane, 0, n, limit);
     if is_padded {
-        evc_plane::pad(t, pic_w, pic_h, plane);
+        evc_pad::pad(t, pic_w, pic_h, plane);
     }
 }
 

@@ -145,7 +145,7 @@ fn make_plane(t: PlaneType, plane: &mut [u16], n: usize, r: &Record)
     pad_text::scatter(plane, n, pad_text::wide(number(r, PLANE_SEED)));
     pad_text::reduce_row(plane, 0, n, limit);
     if number(r, IS_PADDED) == 1 {
-        evc_plane::pad(t, number(r, PIC_W) as u32, number(r, PIC_H) as u32, plane);
+        evc_pad::pad(t, number(r, PIC_W) as u32, number(r, PIC_H) as u32, plane);
     }
 }
 

@@ -135,7 +135,7 @@ fn pad_arbitrary(plane: &mut [u16], t: PlaneType, r: Record) -> u32
         c.height,
         r.limit,
     );
-    evc_plane::pad(t, r.pic_w, r.pic_h, plane)
+    evc_pad::pad(t, r.pic_w, r.pic_h, plane)
 }
 
 fn run_record(plane: &mut [u16], t: PlaneType, r: Record, whole: bool)

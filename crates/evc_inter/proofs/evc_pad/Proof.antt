@@ -2,7 +2,7 @@
 use mathlib.Core.Path.{ap, _∙_}
 use borrow.Author.Needs.{needs}
 use Rattle.evc_plane.specs.declared.PlaneType.{PlaneType}
-use Rattle.evc_plane.specs.Padding.{padCode, padAfter}
+use Rattle.evc_pad.specs.Padding.{padCode, padAfter}
 use Rattle.evc_inter.proofs.evc_pad.Statement.{statement}
 use Rattle.evc_inter.proofs.evc_pad.Tie as tie
 

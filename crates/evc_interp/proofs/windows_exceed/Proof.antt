@@ -5,7 +5,7 @@ use mathlib.Core.Path.{_≡_, ap₂, _∙_}
 use Prim.Native.Nat.{ℕ, _+_}
 use native.Mathlib.Omega.{arith}
 use borrow.Author.Needs.{needs}
-use Rattle.evc_plane.specs.Samples.{exceeds}
+use Rattle.evc_samples.specs.Samples.{exceeds}
 use Rattle.evc_interp.specs.Prediction.{windowExceeds}
 use Rattle.evc_interp.proofs.Windows.{Side, side, stride-is, examined-asks, examined-is}
 use Rattle.evc_interp.proofs.windows_exceed.Statement.{statement}

@@ -9,7 +9,7 @@ use Rattle.evc_plane.specs.declared.PlaneType.{PlaneType}
 use Rattle.evc_plane.specs.declared.PlaneConfig.{PlaneConfig}
 use Rattle.evc_plane.specs.Planes.{configOf, startAt, windowStart}
 use Rattle.evc_plane.proofs.Sizes.{Sizes, sizes-of}
-use Rattle.evc_plane.proofs.Laws.{start-range}
+use Rattle.evc_plane.proofs.Starts.{start-range}
 use Rattle.evc_plane.proofs.window_start.Statement.{statement}
 use Rattle.evc_plane.proofs.window_start.Tie as tie
 
