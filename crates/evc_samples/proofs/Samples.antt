@@ -7,10 +7,11 @@ use mathlib.Core.List.{List}
 use mathlib.Core.Logic.{⊎-elim}
 use native.Mathlib.Omega.{arith}
 use native.Mathlib.Numerals.{add-one}
-use native.Mathlib.Nat.{eq-or-lt-of-le, le-of-suc-le-suc, not-suc-le-zero}
+use native.Mathlib.Nat.{zero-add, eq-or-lt-of-le, le-of-suc-le-suc, not-suc-le-zero}
 use lib.Bits.{bitOr, bitAnd, or-lt, or-add-and, and-le-l, and-le-r}
 use lib.Dec.{T, ltb}
-use lib.ListN.{getD}
+use lib.ListN.{getD, drop}
+use lib.Seq.{getD-drop}
 use borrow.Author.Tests.{ltb-true, ltb-false, lt-ltb, le-ltb}
 use Rattle.evc_int.proofs.Bools.{none-true}
 use Rattle.evc_samples.specs.Samples.{tooLarge, rowExceeds, exceeds}
@@ -83,6 +84,12 @@ module _ (s : List ℕ) (at : ℕ) where
   pub row-more : (x o r : ℕ) → tooLarge o ≡ rowExceeds s at x → tooLarge r ≡ tooLarge o || tooLarge (getD s (at + x) 0) → tooLarge r ≡ rowExceeds s at (x + 1)
   unfolding rowExceeds
   row-more x o r h e = rw add-one (e ∙ ap (λ (b : Bool). b || tooLarge (getD s (at + x) 0)) h)
+
+  -- a row that is handed on as what lies in the plane from it on
+  pub row-from : (n : ℕ) → rowExceeds (drop at s) 0 n ≡ rowExceeds s at n
+  unfolding rowExceeds
+  row-from zero = refl
+  row-from (suc n) = ap₂ (λ (a b : Bool). a || b) (row-from n) (ap tooLarge (ap (λ (i : ℕ). getD (drop at s) i 0) (zero-add n) ∙ getD-drop at s n 0))
 
   -- the first j and the last k are the whole row
   pub ends-all : (n j k : ℕ) → j ≤ n → k ≤ n → n ≤ j + k → rowExceeds s at j || rowExceeds s (at + n - k) k ≡ rowExceeds s at n

@@ -130,25 +130,25 @@ fn or_strips(s: &[u16], at: usize, stride: usize, n: usize, h: usize) -> u16
     o
 }
 
-// One row after the other.
-fn or_row(s: &[u16], at: usize, n: usize) -> u16
-    requires { ⌜ at + n ≤ length (now s) ⌝ }
-    ensures { λ r. ⌜ tooLarge r ≡ rowExceeds (now (s .entry)) at n ⌝ }
+fn or_row(row: &[u16], n: usize) -> u16
+    requires { ⌜ n ≤ length (now row) ⌝ }
+    ensures { λ r. ⌜ tooLarge r ≡ rowExceeds (now (row .entry)) 0 n ⌝ }
 {
     let mut o = 0u16;
     for x in 0..n {
-        o = gather(o, s[at + x]);
+        o = gather(o, row[x]);
     }
     o
 }
 
+// One row of the window after the other.
 fn or_rows(s: &[u16], at: usize, stride: usize, n: usize, h: usize) -> u16
     requires { ⌜ at + h * stride + n ≤ length (now s) + stride ⌝ }
     ensures { λ r. ⌜ tooLarge r ≡ exceeds (now (s .entry)) at stride n h ⌝ }
 {
     let mut o = 0u16;
     for y in 0..h {
-        o = gather(o, or_row(s, at + y * stride, n));
+        o = gather(o, or_row(evc_plane::row_of(s, stride, at, y), n));
     }
     o
 }
