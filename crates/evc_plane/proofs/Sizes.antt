@@ -26,27 +26,27 @@ pub record Sizes (c : PlaneConfig) : Type 0 where
   pub down : c .«alloc_height» ≡ c .yorigin + c .height + c .yorigin
   pub len-top : c .stride * c .«alloc_height» ≤ 8288 * 8288
 
-stride-high : (k : PlaneType) (W : ℕ) → PictureSide W → strideOf k W ≤ 8288
+stride-high : (t : PlaneType) (W : ℕ) → PictureSide W → strideOf t W ≤ 8288
 unfolding originOf strideOf
 stride-high Y W w = omega arith
 stride-high UV W w = omega arith
 
-rows-high : (k : PlaneType) (H : ℕ) → PictureSide H → rowsOf k H ≤ 8288
+rows-high : (t : PlaneType) (H : ℕ) → PictureSide H → rowsOf t H ≤ 8288
 unfolding rowsOf
 rows-high Y H h = omega arith
 rows-high UV H h = omega arith
 
-sizes′ : (k : PlaneType) (W H : ℕ) → PictureSide W → PictureSide H → strideOf k W * rowsOf k H ≤ 8288 * 8288 → Sizes (configOf k W H)
+sizes′ : (t : PlaneType) (W H : ℕ) → PictureSide W → PictureSide H → strideOf t W * rowsOf t H ≤ 8288 * 8288 → Sizes (configOf t W H)
 unfolding originOf strideOf rowsOf configOf
 sizes′ Y W H w h l = omega arith
 sizes′ UV W H w h l = omega arith
 
-pub sizes : (k : PlaneType) (W H : ℕ) → badPicture W H ≡ false → Sizes (configOf k W H)
-sizes k W H e = let b = picture-sides W H e in sizes′ k W H (b .0) (b .1) (mul-le-mul (stride-high k W (b .0)) (rows-high k H (b .1)))
+pub sizes : (t : PlaneType) (W H : ℕ) → badPicture W H ≡ false → Sizes (configOf t W H)
+sizes t W H e = let b = picture-sides W H e in sizes′ t W H (b .0) (b .1) (mul-le-mul (stride-high t W (b .0)) (rows-high t H (b .1)))
 
 -- of what `plane_config` gave
-pub sizes-of : (k : PlaneType) (W H : ℕ) (c : PlaneConfig) → c ≡ configOf k W H → badPicture W H ≡ false → Sizes c
-sizes-of k W H c e b = subst Sizes (sym e) (sizes k W H b)
+pub sizes-of : (t : PlaneType) (W H : ℕ) (c : PlaneConfig) → c ≡ configOf t W H → badPicture W H ≡ false → Sizes c
+sizes-of t W H c e b = subst Sizes (sym e) (sizes t W H b)
 
 -- ---- products, which omega takes as they are
 
@@ -70,9 +70,9 @@ rows c z =
     at-least n S h = let m : 1 * S ≤ n * S = mul-le-mul-right S h in omega arith
 
 -- the length that a call needs is the product of what `plane_config` gave
-pub plane-len : (k : PlaneType) (W H : ℕ) (c : PlaneConfig) → c ≡ configOf k W H → c .stride * c .«alloc_height» ≡ planeLen k W H
+pub plane-len : (t : PlaneType) (W H : ℕ) (c : PlaneConfig) → c ≡ configOf t W H → c .stride * c .«alloc_height» ≡ planeLen t W H
 unfolding configOf
-plane-len k W H c e = ap (λ (r : PlaneConfig). r .stride * r .«alloc_height») e
+plane-len t W H c e = ap (λ (r : PlaneConfig). r .stride * r .«alloc_height») e
 
 -- ---- a plane with room for them
 
@@ -81,7 +81,7 @@ pub record Room (c : PlaneConfig) (n : ℕ) : Type 0 where
   pub products : Rows c
   pub within : c .stride * c .«alloc_height» ≤ n
 
-pub room : (k : PlaneType) (W H : ℕ) (c : PlaneConfig) (n : ℕ) → c ≡ configOf k W H → badPicture W H ≡ false → planeLen k W H ≤ n → Room c n
-room k W H c n e b l =
-    let z = sizes-of k W H c e b in
-    record { sized = z; products = rows c z; within = omega (arith, plane-len k W H c e) }
+pub room : (t : PlaneType) (W H : ℕ) (c : PlaneConfig) (n : ℕ) → c ≡ configOf t W H → badPicture W H ≡ false → planeLen t W H ≤ n → Room c n
+room t W H c n e b l =
+    let z = sizes-of t W H c e b in
+    record { sized = z; products = rows c z; within = omega (arith, plane-len t W H c e) }

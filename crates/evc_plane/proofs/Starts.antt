@@ -25,37 +25,37 @@ module _ (origin size : ℕ) (z : ℤ) where
       go false true (not-under x) (under y) = omega (arith, part⁺ (! (pos size) ⊕ ! (pos origin)))
       go false false (not-under x) (not-under y) = omega (arith, part⁺ (! z ⊕ ! (pos origin)))
 
-  -- t columns on, the column held to the picture is that of the start before it was clamped
-  pub start-column : (t : ℕ) → t ≤ origin → min (startAt origin size z + t - origin) (size - 1) ≡ min ((z +ℤ pos t) ⁺) (size - 1)
+  -- n columns on, the column held to the picture is that of the start before it was clamped
+  pub start-column : (n : ℕ) → n ≤ origin → min (startAt origin size z + n - origin) (size - 1) ≡ min ((z +ℤ pos n) ⁺) (size - 1)
   unfolding startAt clip3
-  start-column t h = go (ltZ z (− origin)) (ltZ (pos size) z) (tested-ex (! z) (neg (! (pos origin)))) (tested-ex (! (pos size)) (! z))
+  start-column n h = go (ltZ z (− origin)) (ltZ (pos size) z) (tested-ex (! z) (neg (! (pos origin)))) (tested-ex (! (pos size)) (! z))
     where
-      go : (a b : Bool) → Tested (z ⁺ + origin) (0 + z ⁻) a → Tested (size + z ⁻) (z ⁺ + 0) b → min ((cond a (− origin) (cond b (pos size) z) +ℤ pos origin) ⁺ + t - origin) (size - 1) ≡ min ((z +ℤ pos t) ⁺) (size - 1)
-      go true b (under x) y = omega (arith, part⁺ (neg (! (pos origin)) ⊕ ! (pos origin)), part⁺ (! z ⊕ ! (pos t)))
-      go false true (not-under x) (under y) = omega (arith, part⁺ (! z ⊕ ! (pos t)))
-      go false false (not-under x) (not-under y) = omega (arith, part⁺ (! z ⊕ ! (pos origin)), part⁺ (! z ⊕ ! (pos t)))
+      go : (a b : Bool) → Tested (z ⁺ + origin) (0 + z ⁻) a → Tested (size + z ⁻) (z ⁺ + 0) b → min ((cond a (− origin) (cond b (pos size) z) +ℤ pos origin) ⁺ + n - origin) (size - 1) ≡ min ((z +ℤ pos n) ⁺) (size - 1)
+      go true b (under x) y = omega (arith, part⁺ (neg (! (pos origin)) ⊕ ! (pos origin)), part⁺ (! z ⊕ ! (pos n)))
+      go false true (not-under x) (under y) = omega (arith, part⁺ (! z ⊕ ! (pos n)))
+      go false false (not-under x) (not-under y) = omega (arith, part⁺ (! z ⊕ ! (pos origin)), part⁺ (! z ⊕ ! (pos n)))
 
-module _ (k : PlaneType) (W H : ℕ) (good : badPicture W H ≡ false) where
-  known : Sizes (configOf k W H)
-  known = sizes k W H good
+module _ (t : PlaneType) (W H : ℕ) (good : badPicture W H ≡ false) where
+  known : Sizes (configOf t W H)
+  known = sizes t W H good
 
   -- a clamped window of at most `pad` columns and rows lies in the plane
-  pub window-within : (zx zy : ℤ) (c r : ℕ) → c < padOf k → r < padOf k → (startAt (originOf k) (sideOf k W) zx + c < strideOf k W) × (startAt (padOf k) (sideOf k H) zy + r < rowsOf k H)
+  pub window-within : (zx zy : ℤ) (c r : ℕ) → c < padOf t → r < padOf t → (startAt (originOf t) (sideOf t W) zx + c < strideOf t W) × (startAt (padOf t) (sideOf t H) zy + r < rowsOf t H)
   unfolding configOf
   window-within zx zy c r lc lr =
       let z = known in
-      let a = start-range (originOf k) (sideOf k W) zx in
-      let b = start-range (padOf k) (sideOf k H) zy in
+      let a = start-range (originOf t) (sideOf t W) zx in
+      let b = start-range (padOf t) (sideOf t H) zy in
       (omega arith, omega arith)
 
   -- what `exceeds` asks of it
-  pub window-fits : (zx zy : ℤ) (n h : ℕ) → n ≤ padOf k → h ≤ padOf k → windowStart k W H zx zy + h * strideOf k W + n ≤ planeLen k W H + strideOf k W
+  pub window-fits : (zx zy : ℤ) (n h : ℕ) → n ≤ padOf t → h ≤ padOf t → windowStart t W H zx zy + h * strideOf t W + n ≤ planeLen t W H + strideOf t W
   unfolding configOf windowStart
   window-fits zx zy n h ln lh =
       let z = known in
-      let S = strideOf k W in
-      let a = start-range (originOf k) (sideOf k W) zx in
-      let b = start-range (padOf k) (sideOf k H) zy in
-      let l : startAt (padOf k) (sideOf k H) zy + h ≤ rowsOf k H = omega arith in
+      let S = strideOf t W in
+      let a = start-range (originOf t) (sideOf t W) zx in
+      let b = start-range (padOf t) (sideOf t H) zy in
+      let l : startAt (padOf t) (sideOf t H) zy + h ≤ rowsOf t H = omega arith in
       let m = mul-le-mul-right S l in
       omega arith

@@ -25,43 +25,43 @@ align16 n = (n + 15) / 16 * 16
 
 -- "The left origin is the pad rounded up to a multiple of 16: 80 and 48."
 unfoldable pub originOf : PlaneType → ℕ
-originOf k = align16 (padOf k)
+originOf t = align16 (padOf t)
 
 -- "Stride is left origin + width + pad, rounded up to 16."
 unfoldable pub strideOf : PlaneType → ℕ → ℕ
-strideOf k W = align16 (originOf k + sideOf k W + padOf k)
+strideOf t W = align16 (originOf t + sideOf t W + padOf t)
 
 -- "Rows: pad + height + pad."
 unfoldable pub rowsOf : PlaneType → ℕ → ℕ
-rowsOf k H = padOf k + sideOf k H + padOf k
+rowsOf t H = padOf t + sideOf t H + padOf t
 
 -- "Lengths needed: a plane, stride × rows"
 abbrev pub planeLen : PlaneType → ℕ → ℕ → ℕ
-planeLen k W H = strideOf k W * rowsOf k H
+planeLen t W H = strideOf t W * rowsOf t H
 
 -- all of these, as the code hands them on
 unfoldable pub configOf : PlaneType → ℕ → ℕ → PlaneConfig
-configOf k W H =
+configOf t W H =
     record {
-      stride = strideOf k W;
-      «alloc_height» = rowsOf k H;
-      width = sideOf k W;
-      height = sideOf k H;
-      xorigin = originOf k;
-      yorigin = padOf k;
+      stride = strideOf t W;
+      «alloc_height» = rowsOf t H;
+      width = sideOf t W;
+      height = sideOf t H;
+      xorigin = originOf t;
+      yorigin = padOf t;
     }
 
 -- the index of the picture's first sample
-abbrev pub firstSample : PlaneType → ℕ → ℕ
-firstSample k W = padOf k * strideOf k W + originOf k
+abbrev pub pictureStart : PlaneType → ℕ → ℕ
+pictureStart t W = padOf t * strideOf t W + originOf t
 
 -- the sample in column x of row y of the buffer
 abbrev pub storedAt : PlaneType → ℕ → List ℕ → ℕ → ℕ → ℕ
-storedAt k W s x y = getD s (y * strideOf k W + x) 0
+storedAt t W s x y = getD s (y * strideOf t W + x) 0
 
 -- the picture's sample in column i of row j
 abbrev pub sampleAt : PlaneType → ℕ → List ℕ → ℕ → ℕ → ℕ
-sampleAt k W s i j = storedAt k W s (originOf k + i) (padOf k + j)
+sampleAt t W s i j = storedAt t W s (originOf t + i) (padOf t + j)
 
 -- the padded reference picture ('What demand 3 compares'): "its sample at any whole (i, j) is the picture's at i held to 0..pw - 1 and j held to
 -- 0..ph - 1."
@@ -70,7 +70,7 @@ reference pic pw ph i j = pic (min (i ⁺) (pw - 1)) (min (j ⁺) (ph - 1))
 
 -- that of the picture in a buffer
 abbrev pub referenceOf : PlaneType → ℕ → ℕ → List ℕ → ℤ → ℤ → ℕ
-referenceOf k W H s = reference (sampleAt k W s) (sideOf k W) (sideOf k H)
+referenceOf t W H s = reference (sampleAt t W s) (sideOf t W) (sideOf t H)
 
 -- "`PlaneSlice::clamp` then holds the start between minus the origin and the plane's size.": in one direction
 abbrev pub clampStart : ℕ → ℕ → ℤ → ℤ
@@ -82,7 +82,7 @@ startAt origin size z = (clampStart origin size z +ℤ pos origin) ⁺
 
 -- the index of the first sample of a window at the place (zx, zy), clamped
 unfoldable pub windowStart : PlaneType → ℕ → ℕ → ℤ → ℤ → ℕ
-windowStart k W H zx zy = startAt (padOf k) (sideOf k H) zy * strideOf k W + startAt (originOf k) (sideOf k W) zx
+windowStart t W H zx zy = startAt (padOf t) (sideOf t H) zy * strideOf t W + startAt (originOf t) (sideOf t W) zx
 
 -- 'Edges to try': "Strides: luma width 4: 176; 8128: 8288; chroma width 2: 96; 4064: 4160."
 abbrev pub StrideEdges : Type 0

@@ -10,8 +10,8 @@ use Rattle.evc_pad.proofs.Laws.{accepts, after}
 use Rattle.evc_pad.proofs.pad.Statement.{statement}
 use Rattle.evc_pad.proofs.pad.Tie as tie
 
-module _ (k : PlaneType) (W H : ℕ) (s : List ℕ) where
-  untouched : (code : ℕ) → code ≡ padCode k W H s → (code ≡ 0 → ⊥) → s ≡ padAfter k W H s
+module _ (t : PlaneType) (W H : ℕ) (s : List ℕ) where
+  untouched : (code : ℕ) → code ≡ padCode t W H s → (code ≡ 0 → ⊥) → s ≡ padAfter t W H s
   unfolding padAfter
   untouched code e n = rw (sym e, ne-eqb code 0 n)
 

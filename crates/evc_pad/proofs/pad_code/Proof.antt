@@ -12,35 +12,35 @@ use Rattle.evc_def.specs.Blocks.{badPicture}
 use Rattle.evc_def.proofs.Codes.{refused, passed, none}
 use Rattle.evc_plane.specs.declared.PlaneType.{PlaneType}
 use Rattle.evc_plane.specs.declared.PlaneConfig.{PlaneConfig}
-use Rattle.evc_plane.specs.Planes.{sideOf, strideOf, planeLen, firstSample, configOf}
+use Rattle.evc_plane.specs.Planes.{sideOf, strideOf, planeLen, pictureStart, configOf}
 use Rattle.evc_samples.specs.Samples.{exceeds}
 use Rattle.evc_pad.specs.Padding.{padCode}
 use Rattle.evc_plane.proofs.Sizes.{Room, room}
 use Rattle.evc_pad.proofs.pad_code.Statement.{statement}
 use Rattle.evc_pad.proofs.pad_code.Tie as tie
 
-module _ (k : PlaneType) (W H : ℕ) (s : List ℕ) where
-  code-1 : badPicture W H ≡ true → 1 ≡ padCode k W H s
+module _ (t : PlaneType) (W H : ℕ) (s : List ℕ) where
+  code-1 : badPicture W H ≡ true → 1 ≡ padCode t W H s
   unfolding padCode
   code-1 b = sym (refused _ _ _ b)
 
   module _ (good : badPicture W H ≡ false) where
-    code-4 : length s < planeLen k W H → 4 ≡ padCode k W H s
+    code-4 : length s < planeLen t W H → 4 ≡ padCode t W H s
     unfolding padCode
-    code-4 h = sym (passed _ _ _ good ∙ refused _ _ _ (lt-ltb (length s) (planeLen k W H) h))
+    code-4 h = sym (passed _ _ _ good ∙ refused _ _ _ (lt-ltb (length s) (planeLen t W H) h))
 
-    module _ (long : planeLen k W H ≤ length s) (c : PlaneConfig) (e : c ≡ configOf k W H) (r : Bool) (seen : r ≡ exceeds s (c .yorigin * c .stride + c .xorigin) (c .stride) (c .width) (c .height)) where
-      examined : exceeds s (firstSample k W) (strideOf k W) (sideOf k W) (sideOf k H) ≡ r
+    module _ (long : planeLen t W H ≤ length s) (c : PlaneConfig) (e : c ≡ configOf t W H) (r : Bool) (seen : r ≡ exceeds s (c .yorigin * c .stride + c .xorigin) (c .stride) (c .width) (c .height)) where
+      examined : exceeds s (pictureStart t W) (strideOf t W) (sideOf t W) (sideOf t H) ≡ r
       unfolding configOf
       examined = sym (seen ∙ ap (λ (z : PlaneConfig). exceeds s (z .yorigin * z .stride + z .xorigin) (z .stride) (z .width) (z .height)) e)
 
-      code-6 : r ≡ true → 6 ≡ padCode k W H s
+      code-6 : r ≡ true → 6 ≡ padCode t W H s
       unfolding padCode
-      code-6 t = sym (passed _ _ _ good ∙ passed _ _ _ (le-ltb (length s) (planeLen k W H) long) ∙ refused _ _ _ (examined ∙ t))
+      code-6 large = sym (passed _ _ _ good ∙ passed _ _ _ (le-ltb (length s) (planeLen t W H) long) ∙ refused _ _ _ (examined ∙ large))
 
-      code-0 : r ≡ false → 0 ≡ padCode k W H s
+      code-0 : r ≡ false → 0 ≡ padCode t W H s
       unfolding padCode
-      code-0 t = sym (passed _ _ _ good ∙ passed _ _ _ (le-ltb (length s) (planeLen k W H) long) ∙ passed _ _ _ (examined ∙ t) ∙ none)
+      code-0 small = sym (passed _ _ _ good ∙ passed _ _ _ (le-ltb (length s) (planeLen t W H) long) ∙ passed _ _ _ (examined ∙ small) ∙ none)
 
 returns : tie.Need-returns
 returns c = code-1 _ _ _ _ (sym (c .before .bad-picture .ensures) ∙ c .if1 .taken)

@@ -18,14 +18,14 @@ use Rattle.evc_pad.proofs.Padding.{filledLeft, filledRight, copiedUp, c
 use Rattle.evc_pad.proofs.pad_plane.Statement.{statement}
 use Rattle.evc_pad.proofs.pad_plane.Tie as tie
 
-module _ (k : PlaneType) (W H : ℕ) (c : PlaneConfig) (e : c ≡ configOf k W H) where
+module _ (t : PlaneType) (W H : ℕ) (c : PlaneConfig) (e : c ≡ configOf t W H) where
   abbrev step : (ℕ → ℕ → ℕ → ℕ → ℕ → List ℕ → List ℕ) → List ℕ → List ℕ
   step f l = f (c .yorigin) (c .xorigin) (c .width) (c .height) (c .stride) l
 
-  by-steps : (s l₁ l₂ l₃ l₄ : List ℕ) → badPicture W H ≡ false → planeLen k W H ≤ length s → l₁ ≡ step filledLeft s → l₂ ≡ step filledRight l₁ → l₃ ≡ step copiedUp l₂ → l₄ ≡ step copiedDown l₃ → l₄ ≡ padded k W H s
+  by-steps : (s l₁ l₂ l₃ l₄ : List ℕ) → badPicture W H ≡ false → planeLen t W H ≤ length s → l₁ ≡ step filledLeft s → l₂ ≡ step filledRight l₁ → l₃ ≡ step copiedUp l₂ → l₄ ≡ step copiedDown l₃ → l₄ ≡ padded t W H s
   unfolding configOf rowsOf padded
   by-steps s l₁ l₂ l₃ l₄ b long e₁ e₂ e₃ e₄ =
-      let z = room k W H c (length s) e b long in
+      let z = room t W H c (length s) e b long in
       e₄ ∙ ap (step copiedDown) (e₃ ∙ ap (step copiedUp) (e₂ ∙ ap (step filledRight) e₁))
       ∙ steps-pad (c .yorigin) (c .xorigin) (c .width) (c .height) (c .stride) s (omega arith) (omega arith) (omega arith) (omega arith) (omega arith)
       ∙ ap (λ (z : PlaneConfig). withBlock s 0 (z .stride) (z .stride) (z .yorigin + z .height + z .yorigin) (held (z .yorigin) (z .xorigin) (z .width) (z .height) (z .stride) s)) e

@@ -9,9 +9,9 @@ use Rattle.evc_plane.proofs.Sizes.{Sizes, sizes}
 use Rattle.evc_plane.proofs.plane_config.Statement.{statement}
 use Rattle.evc_plane.proofs.plane_config.Tie as tie
 
-made : (k : PlaneType) (W H o p w h : ℕ) → o ≡ originOf k → p ≡ padOf k → w ≡ sideOf k W → h ≡ sideOf k H → record { stride = (o + w + p + 15) / 16 * 16; «alloc_height» = p + h + p; width = w; height = h; xorigin = o; yorigin = p } ≡ configOf k W H
+made : (t : PlaneType) (W H o p w h : ℕ) → o ≡ originOf t → p ≡ padOf t → w ≡ sideOf t W → h ≡ sideOf t H → record { stride = (o + w + p + 15) / 16 * 16; «alloc_height» = p + h + p; width = w; height = h; xorigin = o; yorigin = p } ≡ configOf t W H
 unfolding configOf strideOf rowsOf
-made k W H o p w h a b c d = simp (a, b, c, d)
+made t W H o p w h a b c d = simp (a, b, c, d)
 
 small : (c : tie.After-side2) → Sizes (configOf (c .before .before .before .before .args .t) (c .before .before .before .before .args .pic-w) (c .before .before .before .before .args .pic-h))
 small c = sizes _ _ _ (c .before .before .before .before .pre)

@@ -16,8 +16,8 @@ use Rattle.evc_plane.proofs.window_start.Tie as tie
 sized : (c : tie.After-plane-config) → Sizes (c .plane-config .result)
 sized c = sizes-of _ _ _ _ (c .plane-config .ensures) (c .before .pre)
 
-module _ (k : PlaneType) (W H : ℕ) (c : PlaneConfig) (zx zy : ℤ) (x y : ℕ) (ex : x ≡ startAt (c .xorigin) (c .width) zx) (ey : y ≡ startAt (c .yorigin) (c .height) zy) where
-  index : c ≡ configOf k W H → y * c .stride + x ≡ windowStart k W H zx zy
+module _ (t : PlaneType) (W H : ℕ) (c : PlaneConfig) (zx zy : ℤ) (x y : ℕ) (ex : x ≡ startAt (c .xorigin) (c .width) zx) (ey : y ≡ startAt (c .yorigin) (c .height) zy) where
+  index : c ≡ configOf t W H → y * c .stride + x ≡ windowStart t W H zx zy
   unfolding configOf windowStart
   index e =
       ap₂ (λ (a b : ℕ). a * c .stride + b) ey ex
