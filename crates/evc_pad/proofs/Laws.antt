@@ -1,18 +1,22 @@
 -- Laws of the padded plane, for every accepted picture, both types and every buffer that is long enough: what stands at each place, and that it is
 -- the padded reference picture, also through a clamped window; twice is once; equal pictures give equal planes; mirrors. Assumes nothing.
-use mathlib.Core.Bool.{false}
-use mathlib.Core.List.{List}
-use mathlib.Core.Path.{_≡_, sym, ap, ap₂, _∙_}
+use mathlib.Core.Bool.{Bool, true, false, _&&_, _||_}
+use mathlib.Core.List.{List, [], _∷_}
+use mathlib.Core.Path.{_≡_, refl, sym, ap, ap₂, _∙_}
 use Prim.Native.Nat.{ℕ, _+_, _-_, _*_, _≤_, _<_, min}
 use native.Mathlib.Omega.{arith}
 use native.Mathlib.Nat.{le-refl}
 use lib.IntN.{ℤ, pos, _+ℤ_}
+use lib.Dec.{T, eqb, ltb, ltb→lt}
 use lib.ListN.{length, getD}
+use mir.Facts.{and-yes}
 use borrow.Author.Tests.{ltb-false, le-ltb}
 use Rattle.evc_int.specs.Whole.{_⁺}
 use Rattle.evc_int.proofs.Lists.{length-withBlock, withBlock-in, withBlock-past}
 use Rattle.evc_def.specs.Blocks.{badPicture}
-use Rattle.evc_def.proofs.Codes.{accepted, passed, none}
+use Rattle.evc_def.specs.Codes.{Check, _when_, firstOf}
+use Rattle.evc_def.proofs.Codes.{refuses}
+use Rattle.evc_int.proofs.Bools.{none-true}
 use Rattle.evc_plane.specs.declared.PlaneType.{PlaneType}
 use Rattle.evc_plane.specs.Planes.{sideOf, padOf, originOf, strideOf, rowsOf, planeLen, configOf, pictureStart, storedAt, sampleAt, reference, referenceOf, startAt, windowStart}
 use Rattle.evc_plane.proofs.Reference.{reference-stored, reference-left-right, reference-top-bottom}
@@ -123,6 +127,22 @@ module _ (t : PlaneType) (W H : ℕ) (good : badPicture W H ≡ false) where
 
 -- ---- the call
 
+-- no check gives 0
+abbrev positive : List Check → Bool
+positive [] = true
+positive (n when b ∷ checks) = ltb 0 n && positive checks
+
+-- a call that gives 0 passed every check, whatever their order
+passes : (k : ℕ) (checks : List Check) → T (positive checks) → firstOf checks ≡ 0 → refuses k checks ≡ false
+unfolding firstOf
+passes k [] p e = refl
+passes k (n when true ∷ checks) p e = let l = ltb→lt 0 n (and-yes (ltb 0 n) (positive checks) p .0) in absurd (omega arith)
+passes k (n when false ∷ checks) p e = ap₂ (λ (a b : Bool). a || b) (and-no (eqb k n)) (passes k checks (and-yes (ltb 0 n) (positive checks) p .1) e)
+  where
+    and-no : (b : Bool) → b && false ≡ false
+    and-no true = refl
+    and-no false = refl
+
 pub after : (t : PlaneType) (W H : ℕ) (s : List ℕ) → padCode t W H s ≡ 0 → padAfter t W H s ≡ padded t W H s
 unfolding padAfter
 after t W H s done = rw done
@@ -131,11 +151,11 @@ module _ (t : PlaneType) (W H : ℕ) (s : List ℕ) (done : padCode t W H s ≡ 
   -- what an accepted call knows
   pub accepts : (badPicture W H ≡ false) × (planeLen t W H ≤ length s) × (exceeds s (pictureStart t W) (strideOf t W) (sideOf t W) (sideOf t H) ≡ false)
   unfolding padCode
-  accepts =
-      let f = accepted 1 _ _ (omega arith) done in
-      let g = accepted 4 _ _ (omega arith) (f .1) in
-      let h = accepted 6 _ _ (omega arith) (g .1) in
-      (f .0, ltb-false (length s) (planeLen t W H) (g .0), h .0)
+  accepts = (
+    none-true (badPicture W H) false (passes 1 _ tt done) .0,
+    ltb-false (length s) (planeLen t W H) (none-true (ltb (length s) (planeLen t W H)) false (passes 4 _ tt done) .0),
+    none-true (exceeds s (pictureStart t W) (strideOf t W) (sideOf t W) (sideOf t H)) false (passes 6 _ tt done) .0,
+  )
 
   -- no sample of its picture is above 1023
   pub picture-small : (i j : ℕ) → i < sideOf t W → j < sideOf t H → sampleAt t W s i j ≤ 1023
@@ -162,16 +182,13 @@ module _ (t : PlaneType) (W H : ℕ) (s : List ℕ) (done : padCode t W H s ≡ 
   -- another picture of these sides is accepted where its buffer is long enough and its samples are small
   module _ (u : List ℕ) (long : planeLen t W H ≤ length u) where
     small-accepted : ((i j : ℕ) → i < sideOf t W → j < sideOf t H → sampleAt t W u i j ≤ 1023) → padCode t W H u ≡ 0
-    unfolding padCode
+    unfolding padCode firstOf
     small-accepted h =
         let S = strideOf t W in
-        passed _ _ _ (accepts .0)
-        ∙ passed _ _ _ (le-ltb (length u) (planeLen t W H) long)
-        ∙ passed _ _ _
-        (none-exceeds u (pictureStart t W) S (sideOf t W) (sideOf t H) (λ y x ly lx.
-        let e : (padOf t + y) * S + (originOf t + x) ≡ padOf t * S + originOf t + y * S + x = omega arith in
-        rw (sym e) (h x y lx ly)))
-        ∙ none
+        let small = none-exceeds u (pictureStart t W) S (sideOf t W) (sideOf t H) (λ y x ly lx.
+            let e : (padOf t + y) * S + (originOf t + x) ≡ padOf t * S + originOf t + y * S + x = omega arith in
+            rw (sym e) (h x y lx ly)) in
+        simp (accepts .0, le-ltb (length u) (planeLen t W H) long, small)
 
     -- the mirror of the picture
     pub mirrored-accepted : (LeftRight t W H s u → padCode t W H u ≡ 0) × (TopBottom t W H s u → padCode t W H u ≡ 0)
