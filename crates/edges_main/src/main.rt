@@ -5,11 +5,11 @@ ghost use mathlib.Core.Bool.{false};
 ghost use Rattle.evc_def.specs.Blocks.{badPicture};
 use evc_def::EvcBlock;
 use evc_def::EvcMv;
+use evc_direct::Pocs;
 use evc_mc::EvcList;
 use evc_mc::PRED_LEN;
+use evc_motion::EvcCandidates;
 use evc_plane::PlaneType;
-use evc_util::EvcCandidates;
-use evc_util::Pocs;
 use libc::STDOUT_FILENO;
 
 // What a picture of 8128 by 4 needs, and one of 128 by 128 with it.
@@ -29,7 +29,7 @@ fn no_motion() -> EvcMv {
 
 fn flags(b: EvcBlock) -> u32 {
     let map_scu = [0u32; UNITS];
-    let r = evc_util::evc_get_avail_inter(b, &map_scu);
+    let r = evc_avail::evc_get_avail_inter(b, &map_scu);
     r.code
 }
 
@@ -42,7 +42,7 @@ fn candidates(b: EvcBlock) -> u32 {
         collocated: no_motion(),
         refi: [0i8; 4],
     };
-    let r = evc_util::get_motion(b, 0, 0, &map, true, &map, old);
+    let r = evc_motion::get_motion(b, 0, 0, &map, true, &map, old);
     r.code
 }
 
@@ -54,7 +54,7 @@ fn direct(b: EvcBlock, poc: u32) -> u32 {
         poc1: 2,
         list_poc0: 1,
     };
-    let r = evc_util::evc_get_mv_dir(b, pocs, true, &map);
+    let r = evc_direct::evc_get_mv_dir(b, pocs, true, &map);
     r.code
 }
 

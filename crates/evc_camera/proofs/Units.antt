@@ -1,5 +1,5 @@
 -- Sums over one unit more, and what they are within. Assumes nothing.
-use mathlib.Core.Bool.{Bool, true, false, cond, _||_}
+use mathlib.Core.Bool.{Bool, true, false, not, cond, _&&_, _||_}
 use mathlib.Core.List.{List}
 use mathlib.Core.Path.{_≡_, refl, sym, ap, ap₂, subst, _∙_}
 use Prim.Native.Nat.{ℕ, _+_, _*_, _≤_}
@@ -10,11 +10,16 @@ use lib.IntN.{ℤ, pos, natAbs}
 use mir.Syntax.{w64}
 use mir.Val.{SFits}
 use Rattle.evc_int.proofs.Machine.{fit-abs}
+use Rattle.evc_def.specs.Tables.{isCoded, isIntra}
 use Rattle.evc_def.specs.declared.EvcMv.{EvcMv}
-use Rattle.evc_util.specs.Units.{mvAt}
+use Rattle.evc_map.specs.Maps.{mostUnits, wordAt, mvAt}
 use Rattle.evc_camera.specs.declared.Sums.{Sums}
 use Rattle.evc_camera.specs.Camera.{isCounted, withMv, sumsOf}
-use Rattle.evc_camera.specs.Code.{mostUnits, Within}
+use Rattle.evc_camera.specs.Code.{Within}
+
+-- a unit counts by its word
+pub counted-at : (words : List ℕ) (i word : ℕ) (r : Bool) → word ≡ wordAt words i → r ≡ (isCoded word && not (isIntra word)) → r ≡ isCounted words i
+counted-at words i word r e p = p ∙ rw e
 
 -- a sum fits 64 bits
 pub sum-fits : (z : ℤ) → natAbs z ≤ 32768 * mostUnits → SFits w64 z

@@ -2,9 +2,9 @@
 use mathlib.Core.Bool.{Bool, true, false, cond, not, _&&_, _||_}
 use mathlib.Core.List.{List, [], _∷_}
 use Prim.Native.Nat.{ℕ, zero, suc, _+_, _*_}
-use lib.Dec.{eqb, ltb}
+use lib.Dec.{eqb}
 use lib.IntN.{ℤ, pos, negsuc, natAbs, _+ℤ_}
-use lib.ListN.{length, getD}
+use lib.ListN.{length}
 use lib.Ieee as Ieee
 use lib.Ieee.{Float, binary64}
 use Rattle.evc_int.specs.Whole.{eqZ}
@@ -12,7 +12,7 @@ use Rattle.evc_def.specs.Blocks.{badPicture}
 use Rattle.evc_def.specs.Codes.{Check, _when_, firstOf}
 use Rattle.evc_def.specs.Tables.{isCoded, isIntra}
 use Rattle.evc_def.specs.declared.EvcMv.{EvcMv}
-use Rattle.evc_util.specs.Units.{unitsOf, mvLen, mvAt}
+use Rattle.evc_map.specs.Maps.{unitsOf, wordAt, wordsShort, mvAt, mapShort}
 use Rattle.evc_camera.specs.declared.Sums.{Sums}
 use Rattle.evc_camera.specs.declared.CameraMotion.{CameraMotion}
 use Rattle.evc_camera.specs.declared.CameraMotion.the-variants.{None, Still, Moving}
@@ -20,7 +20,7 @@ use Rattle.evc_camera.specs.declared.EvcCamera.{EvcCamera}
 
 -- "over units coded and not intra"
 abbrev pub isCounted : List ℕ → ℕ → Bool
-isCounted words i = isCoded (getD words i 0) && not (isIntra (getD words i 0))
+isCounted words i = isCoded (wordAt words i) && not (isIntra (wordAt words i))
 
 -- one unit more, with its vector
 abbrev pub withMv : Sums → EvcMv → Sums
@@ -57,7 +57,7 @@ answer c (Moving x y) = record { code = c; kind = 2; x = x; y = y }
 
 -- "It refuses 1, then 4": the map or the words are too short
 abbrev pub cameraChecks : ℕ → ℕ → ℕ → ℕ → List Check
-cameraChecks W H map words = 1 when badPicture W H ∷ 4 when (ltb map (mvLen * unitsOf W H) || ltb words (unitsOf W H)) ∷ []
+cameraChecks W H map words = 1 when badPicture W H ∷ 4 when (mapShort W H map || wordsShort W H words) ∷ []
 
 -- "with the first reading"
 unfoldable pub cameraMotion : ℕ → ℕ → List ℤ → List ℕ → EvcCamera

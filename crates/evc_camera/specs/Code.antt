@@ -7,10 +7,6 @@ use lib.IntN.{natAbs}
 use Rattle.evc_camera.specs.declared.Sums.{Sums}
 use Rattle.evc_camera.specs.Camera.{isCounted}
 
--- units of the largest picture, 8128 by 8128
-abbrev pub mostUnits : ℕ
-mostUnits = 4129024
-
 -- sums over at most k units
 pub record Within (s : Sums) (k : ℕ) : Type 0 where
   pub few : s .units ≤ k

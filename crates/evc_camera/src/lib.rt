@@ -4,11 +4,11 @@ ghost use Prim.Native.Nat.{_+_, _*_, _<_, _≤_};
 ghost use lib.ListN.{length};
 ghost use lib.IntN.{pos, natAbs, _+ℤ_};
 ghost use Rattle.evc_def.specs.Codes.{firstOf};
-ghost use Rattle.evc_util.specs.Units.{mvLen};
+ghost use Rattle.evc_map.specs.Maps.{mostUnits, mvLen};
 ghost use Rattle.evc_camera.specs.Camera.{withMv, sumsOf, meanOf, motionOf, answer, cameraChecks, cameraMotion};
-ghost use Rattle.evc_camera.specs.Code.{mostUnits, Within, AllCounted};
+ghost use Rattle.evc_camera.specs.Code.{Within, AllCounted};
 use evc_def::EvcMv;
-use evc_def::MCU;
+use evc_def::Scu;
 
 // The units that count, and the whole sums of their list 0 vectors, in quarter samples.
 pub struct Sums {
@@ -67,7 +67,7 @@ fn all_counted(map_scu: &[u32], from: usize, to: usize) -> bool
 {
     let mut all = true;
     for i in from..to {
-        all = all & MCU(map_scu[i]).IS_COD_NIF();
+        all = all & evc_map::mcu_at(map_scu, Scu(i)).IS_COD_NIF();
     }
     all
 }
@@ -80,8 +80,8 @@ fn add_units(s: Sums, map_mv: &[i16], map_scu: &[u32], from: usize, to: usize, a
 {
     let mut sums = s;
     for i in from..to {
-        let counted = all | MCU(map_scu[i]).IS_COD_NIF();
-        let mv = evc_util::mv_at(map_mv, i, 0);
+        let counted = all | evc_map::mcu_at(map_scu, Scu(i)).IS_COD_NIF();
+        let mv = evc_map::mv_at(map_mv, Scu(i), 0);
         sums = add_mv(sums, counted, mv);
     }
     sums
@@ -171,8 +171,7 @@ fn camera_code(pic_w: u32, pic_h: u32, map_mv: usize, map_scu: usize) -> u32
     if evc_def::bad_picture(pic_w, pic_h) {
         return 1;
     }
-    let units = evc_util::unit_count(pic_w, pic_h);
-    if evc_util::map_short(pic_w, pic_h, map_mv) | (map_scu < units) {
+    if evc_map::map_short(pic_w, pic_h, map_mv) | evc_map::words_short(pic_w, pic_h, map_scu) {
         return 4;
     }
     0
@@ -185,7 +184,7 @@ pub fn evc_camera_motion(pic_w: u32, pic_h: u32, map_mv: &[i16], map_scu: &[u32]
     if code != 0 {
         return answer(code, CameraMotion::None);
     }
-    let units = evc_util::unit_count(pic_w, pic_h);
-    let s = sum_units(map_mv, map_scu, units);
+    let units = evc_map::unit_count(pic_w, pic_h);
+    let s = sum_units(map_mv, map_scu, units.index());
     answer(0, motion_of(s))
 }

@@ -15,13 +15,12 @@ use Rattle.evc_int.specs.Whole.{eqZ}
 use Rattle.evc_def.specs.Blocks.{badPicture}
 use Rattle.evc_def.specs.Codes.{firstOf}
 use Rattle.evc_def.specs.declared.EvcMv.{EvcMv}
-use Rattle.evc_util.specs.Units.{unitsOf, mvAt}
-use Rattle.evc_util.proofs.Units.{units-small}
+use Rattle.evc_map.specs.Maps.{mostUnits, unitsOf, mvAt}
+use Rattle.evc_map.proofs.Units.{units-small}
 use Rattle.evc_camera.specs.declared.Sums.{Sums}
 use Rattle.evc_camera.specs.declared.CameraMotion.the-variants.{None, Still, Moving}
 use Rattle.evc_camera.specs.declared.EvcCamera.{EvcCamera}
 use Rattle.evc_camera.specs.Camera.{isCounted, sumsOf, meanOf, motionOf, answer, plusZero, cameraMotion}
-use Rattle.evc_camera.specs.Code.{mostUnits}
 use Rattle.evc_camera.proofs.Call.{covered}
 use Rattle.evc_camera_law.specs.CameraLaws.{SixAndSeven, FourAndMinusFour, Call, codeOf, reading, Refused, vectors, Unread, AnyOrder, InPlace, ColumnsReversed, RowsReversed, Reordered, sums, turned, LeftRight, TopBottom, Shown, Within8192, Bounded, CameraLaws}
 use Rattle.evc_camera_law.proofs.Means.{mean-is-zero, mean-turned, zero-turned, neg-zero, mean-bounded, zero-bounded}

@@ -17,8 +17,8 @@ use lib.Ieee.Positive.{above, above-of-le}
 use lib.Ieee.Scale.{round-same}
 use Rattle.evc_int.specs.Whole.{eqZ}
 use Rattle.evc_def.proofs.Codes.{or-yes}
+use Rattle.evc_map.specs.Maps.{mostUnits}
 use Rattle.evc_camera.specs.Camera.{meanOf, plusZero}
-use Rattle.evc_camera.specs.Code.{mostUnits}
 use Rattle.evc_camera_law.specs.CameraLaws.{turned, 8192·0, Within8192}
 
 pub mean-zero : (n : ℕ) → 0 < n → meanOf (pos 0) n ≡ plusZero

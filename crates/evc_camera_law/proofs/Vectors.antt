@@ -8,7 +8,7 @@ use lib.IntN.{ℤ, pos, negℤ, natAbs, _+ℤ_}
 use lib.ListN.{getD}
 use Rattle.evc_int.proofs.Whole.{of, is-+, is-neg, same, abs-add-le}
 use Rattle.evc_def.specs.declared.EvcMv.{EvcMv}
-use Rattle.evc_util.specs.Units.{mvAt}
+use Rattle.evc_map.specs.Maps.{mvAt}
 use Rattle.evc_camera.specs.declared.Sums.{Sums}
 use Rattle.evc_camera.specs.Camera.{isCounted, withMv, sumsOf}
 use Rattle.evc_camera_law.specs.CameraLaws.{countedMvs}

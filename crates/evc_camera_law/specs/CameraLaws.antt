@@ -12,7 +12,7 @@ use lib.Ieee.{Float, fin}
 use Rattle.evc_int.specs.Whole.{−_}
 use Rattle.evc_def.specs.Codes.{firstOf}
 use Rattle.evc_def.specs.declared.EvcMv.{EvcMv}
-use Rattle.evc_util.specs.Units.{unitsOf, mvAt}
+use Rattle.evc_map.specs.Maps.{unitsOf, mvAt}
 use Rattle.evc_law.specs.Demand3.{mvLeftRight, mvTopBottom}
 use Rattle.evc_camera.specs.declared.Sums.{Sums}
 use Rattle.evc_camera.specs.declared.EvcCamera.{EvcCamera}

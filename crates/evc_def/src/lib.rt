@@ -1,7 +1,7 @@
 ghost use mathlib.Core.Path.{_≡_};
 ghost use mathlib.Core.Bool.{not, _&&_};
-ghost use Prim.Native.Nat.{ℕ, _+_, _*_, _/_, _<_, _^_};
-ghost use lib.Dec.{leb};
+ghost use Prim.Native.Nat.{ℕ, _+_, _<_, _^_};
+ghost use lib.Dec.{leb, eqb};
 ghost use lib.ListN.{getD};
 ghost use lib.IntN.{pos, _+ℤ_, _*ℤ_};
 ghost use lib.Signed.{shrZ, _≤ℤ_};
@@ -112,8 +112,8 @@ pub fn cu_dim_offset(c: usize) -> usize
 pub struct Pel(pub i32);
 // A position in quarter samples.
 pub struct Qpel(pub i32);
-// An index in units of four samples (SCU).
-pub struct Scu(pub u32);
+// An index in units of four samples (SCU), or a count of them.
+pub struct Scu(pub usize);
 
 impl Pel {
     pub fn new(n: u32) -> Pel
@@ -135,17 +135,16 @@ impl Pel {
         requires { ⌜ pos 0 ≤ℤ self .0 ⌝ }
         ensures { λ r. ⌜ pos (r .0) ≡ shrZ (self .0) 4 ⌝ }
     {
-        Scu((self.0 >> MIN_CU_LOG2) as u32)
+        Scu((self.0 >> MIN_CU_LOG2) as usize)
     }
 }
 
 impl Scu {
-    // The unit's first sample.
-    pub fn pel(self) -> Pel
-        requires { ⌜ self .0 < 2 ^ 29 ⌝ }
-        ensures { λ r. ⌜ r .0 ≡ pos (4 * self .0) ⌝ }
+    // Where a map has the unit; of a count, how many units it must have.
+    pub fn index(self) -> usize
+        ensures { λ r. ⌜ r ≡ self .0 ⌝ }
     {
-        Pel((4 * self.0) as i32)
+        self.0
     }
 }
 
@@ -219,6 +218,19 @@ fn is_inside(size: u32, place: u32, side: u32) -> bool
     ensures { λ r. ⌜ r ≡ leb (place + side) size ⌝ }
 {
     place as u64 + side as u64 <= size as u64
+}
+
+// Whether the picture goes on beside and below the block. The sums are those of the check, so that they are formed once.
+pub fn has_right(b: EvcBlock) -> bool
+    ensures { λ r. ⌜ r ≡ not (eqb (b .x + b .w) (b .«pic_w»)) ⌝ }
+{
+    b.x as u64 + b.w as u64 != b.pic_w as u64
+}
+
+pub fn has_below(b: EvcBlock) -> bool
+    ensures { λ r. ⌜ r ≡ not (eqb (b .y + b .h) (b .«pic_h»)) ⌝ }
+{
+    b.y as u64 + b.h as u64 != b.pic_h as u64
 }
 
 pub fn bad_picture(pic_w: u32, pic_h: u32) -> bool

@@ -2,7 +2,7 @@
 use mathlib.Core.List.{[], _∷_}
 use lib.IntN.{pos}
 use Rattle.evc_def.specs.declared.EvcMv.{EvcMv}
-use Rattle.evc_util.specs.declared.EvcCandidates.{EvcCandidates}
+use Rattle.evc_motion.specs.declared.EvcCandidates.{EvcCandidates}
 
 -- a record of zeros
 abbrev pub blank : EvcCandidates

@@ -1,9 +1,8 @@
-//! The calls of include/evc_inter.h, each over the function that does its work.
 ghost use mathlib.Core.Path.{_≡_};
 ghost use Rattle.evc_clip.specs.Clip.{mvClip};
-ghost use Rattle.evc_util.specs.Flags.{getAvailInter};
-ghost use Rattle.evc_util.specs.Direct.{getMvDir};
-ghost use Rattle.evc_util.specs.Candidates.{getMotion};
+ghost use Rattle.evc_avail.specs.Flags.{getAvailInter};
+ghost use Rattle.evc_direct.specs.Direct.{getMvDir};
+ghost use Rattle.evc_motion.specs.Candidates.{getMotion};
 ghost use Rattle.evc_pad.specs.Padding.{padCode, padAfter};
 ghost use Rattle.evc_interp.specs.Prediction.{mcPlaneCode, mcPlaneAfter};
 ghost use Rattle.evc_mc.specs.Block.{refPicList, mc2Code, mc2First, mc2Second};
@@ -13,19 +12,19 @@ ghost use Rattle.evc_camera.specs.Camera.{cameraMotion};
 ghost use Rattle.evc_trace.specs.Format.{writeHeaderCode, writeHeaderAfter, writeRecordCode, writeRecordAfter};
 ghost use Rattle.evc_record.specs.Record.{planes};
 ghost use Rattle.evc_replay.specs.Replay.{replayed};
+use evc_avail::EvcAvail;
 use evc_camera::EvcCamera;
 use evc_clip::EvcClipped;
 use evc_def::EvcBlock;
 use evc_def::EvcMv;
+use evc_direct::EvcDirect;
+use evc_direct::Pocs;
 use evc_mc::EvcList;
+use evc_motion::EvcCandidates;
+use evc_motion::Motion;
 use evc_plane::PlaneType;
 use evc_replay::EvcReplay;
 use evc_trace::EvcTraceRecord;
-use evc_util::EvcAvail;
-use evc_util::EvcCandidates;
-use evc_util::EvcDirect;
-use evc_util::Motion;
-use evc_util::Pocs;
 
 fn plane_type(chroma: bool) -> PlaneType
     ensures { λ r. ⌜ r ≡ planeType chroma ⌝ }
@@ -47,7 +46,7 @@ pub extern "C" fn evc_pad(chroma: bool, pic_w: u32, pic_h: u32, plane: &mut [u16
 pub extern "C" fn evc_get_avail_inter(block: EvcBlock, map_scu: &[u32]) -> EvcAvail
     ensures { λ r. ⌜ r ≡ getAvailInter block (now («map_scu» .entry)) ⌝ }
 {
-    evc_util::evc_get_avail_inter(block, map_scu)
+    evc_avail::evc_get_avail_inter(block, map_scu)
 }
 
 // Direct vectors.
@@ -69,7 +68,7 @@ pub extern "C" fn evc_get_mv_dir(
         poc1,
         list_poc0,
     };
-    evc_util::evc_get_mv_dir(block, pocs, has_col, col_mv)
+    evc_direct::evc_get_mv_dir(block, pocs, has_col, col_mv)
 }
 
 // Clipping of one vector.
@@ -99,7 +98,7 @@ fn found_motion(
         collocated: zero,
         refi: [0; 4],
     };
-    evc_util::get_motion(block, lidx, avail, map_mv, has_col, col_mv, blank)
+    evc_motion::get_motion(block, lidx, avail, map_mv, has_col, col_mv, blank)
 }
 
 // The four candidates of a list, into the record lent. After a refusal nothing is stored.

@@ -2,8 +2,8 @@
 -- each group is stated and shown beside its definitions, which the contracts cite.
 use Rattle.evc_filter.specs.Filter.{FilterEdges, filterEdges}
 use Rattle.evc_clip.specs.Clip.{ClipEdges, clipEdges}
-use Rattle.evc_util.specs.Direct.{DirectEdges, directEdges}
-use Rattle.evc_util.specs.Flags.{FlagEdges, flagEdges}
+use Rattle.evc_direct.specs.Direct.{DirectEdges, directEdges}
+use Rattle.evc_avail.specs.Flags.{FlagEdges, flagEdges}
 use Rattle.evc_mc.specs.Block.{AverageEdges, averageEdges}
 
 abbrev pub Edges : Type 0

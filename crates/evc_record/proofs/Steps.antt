@@ -10,7 +10,7 @@ use lib.ListN.{length}
 use Rattle.evc_def.specs.Codes.{firstOf, blockChecks}
 use Rattle.evc_def.specs.declared.EvcBlock.{EvcBlock}
 use Rattle.evc_def.proofs.Codes.{accepted}
-use Rattle.evc_util.specs.declared.EvcDirect.{EvcDirect}
+use Rattle.evc_direct.specs.declared.EvcDirect.{EvcDirect}
 use Rattle.evc_mc.specs.Block.{RefPicList, refPicList, Component, luma, cb, cr, withSamples, firstSample, predLen, mc2Code, mc2First}
 use Rattle.evc_mc.specs.Steps.{blockSample}
 use Rattle.evc_mc.specs.declared.EvcList.{EvcList}

@@ -11,9 +11,9 @@ use Rattle.evc_def.specs.declared.EvcBlock.{EvcBlock}
 use Rattle.evc_def.specs.declared.EvcMv.{EvcMv}
 use Rattle.evc_plane.specs.Planes.{sideOf, padOf, originOf, strideOf}
 use Rattle.evc_plane.specs.declared.PlaneType.{PlaneType}
-use Rattle.evc_util.specs.Direct.{getMvDir}
-use Rattle.evc_util.specs.declared.EvcDirect.{EvcDirect}
-use Rattle.evc_util.specs.declared.Pocs.{Pocs}
+use Rattle.evc_direct.specs.Direct.{getMvDir}
+use Rattle.evc_direct.specs.declared.EvcDirect.{EvcDirect}
+use Rattle.evc_direct.specs.declared.Pocs.{Pocs}
 use Rattle.evc_clip.specs.Clip.{clipMv}
 use Rattle.evc_mc.specs.Block.{RefPicList, Component, luma, cb, cr, typeOf, widthOf, heightOf, firstSample, predLen, planesShort, mc2Code}
 use Rattle.evc_mc.specs.declared.EvcList.{EvcList}

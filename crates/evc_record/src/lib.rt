@@ -5,7 +5,7 @@ ghost use lib.ListN.{length, getD};
 ghost use Rattle.evc_int.specs.Lists.{withBlock};
 ghost use Rattle.evc_def.specs.Codes.{firstOf, blockChecks};
 ghost use Rattle.evc_plane.specs.Planes.{sideOf, strideOf, planeLen};
-ghost use Rattle.evc_util.specs.Direct.{getMvDir};
+ghost use Rattle.evc_direct.specs.Direct.{getMvDir};
 ghost use Rattle.evc_lanes.specs.Code.{isRowWidth};
 ghost use Rattle.evc_mc.specs.Block.{luma, cb, cr, refPicList, predLen, mc2Code, withSamples, firstSample};
 ghost use Rattle.evc_mc.specs.Steps.{blockSample};
@@ -18,8 +18,8 @@ use evc_plane::PlaneType;
 use evc_trace::EvcTraceRecord;
 use evc_trace::RECORD_LEN;
 use evc_trace::TraceHeader;
-use evc_util::EvcDirect;
-use evc_util::Pocs;
+use evc_direct::EvcDirect;
+use evc_direct::Pocs;
 
 // ---- a block's samples into the target
 
@@ -93,7 +93,7 @@ fn pocs_of(h: TraceHeader, r: EvcTraceRecord) -> Pocs
 fn direct(b: EvcBlock, p: Pocs, has_col: bool, col_mv: &[i16]) -> EvcDirect
     ensures { λ m. ⌜ m ≡ getMvDir b p «has_col» (now («col_mv» .entry)) ⌝ }
 {
-    let code = evc_util::direct_code(b, p, has_col, col_mv.len());
+    let code = evc_direct::direct_code(b, p, has_col, col_mv.len());
     if code != 0 {
         return EvcDirect {
             code,
@@ -101,7 +101,7 @@ fn direct(b: EvcBlock, p: Pocs, has_col: bool, col_mv: &[i16]) -> EvcDirect
             mv1: EvcMv { x: 0, y: 0 },
         };
     }
-    evc_util::direct_mv(b, p, has_col, col_mv)
+    evc_direct::direct_mv(b, p, has_col, col_mv)
 }
 
 fn motion(h: TraceHeader, r: EvcTraceRecord, has_col: bool, col_mv: &[i16]) -> EvcDirect

@@ -12,7 +12,7 @@ use Rattle.evc_int.proofs.Bools.{none-true}
 use Rattle.evc_def.specs.Blocks.{badPicture}
 use Rattle.evc_def.proofs.Codes.{refused, passed, none, accepted}
 use Rattle.evc_mc.specs.Block.{planesShort}
-use Rattle.evc_util.specs.Units.{mvLen, unitsOf}
+use Rattle.evc_map.specs.Maps.{mapShort}
 use Rattle.evc_trace.specs.Format.{version, isTrace, headerOf}
 use Rattle.evc_trace.specs.declared.TraceHeader.{TraceHeader}
 use Rattle.evc_record.specs.Record.{Planes, source, pictureShort}
@@ -20,11 +20,11 @@ use Rattle.evc_replay.specs.Replay.{headerCode, Replayed, recordsFrom, a
 
 -- 4: "every lent plane and map"
 abbrev pub short : TraceHeader → Planes → Planes → Planes → Bool → List ℤ → Bool
-short h p q t has col = pictureShort (h .«pic_w») (h .«pic_h») p || pictureShort (h .«pic_w») (h .«pic_h») q || pictureShort (h .«pic_w») (h .«pic_h») t || has && ltb (length col) (mvLen * unitsOf (h .«pic_w») (h .«pic_h»))
+short h p q t has col = pictureShort (h .«pic_w») (h .«pic_h») p || pictureShort (h .«pic_w») (h .«pic_h») q || pictureShort (h .«pic_w») (h .«pic_h») t || has && mapShort (h .«pic_w») (h .«pic_h») (length col)
 
 -- the test of the code is that of the definition
 pub tested : (h : TraceHeader) (p q t : Planes) (has : Bool) (col : List ℤ) (a b c d : Bool) → a ≡ planesShort (h .«pic_w») (h .«pic_h») (p .y) (p .u) (p .v) → b ≡ planesShort (h .«pic_w») (h .«pic_h») (q .y) (q .u) (q .v)
-    → c ≡ planesShort (h .«pic_w») (h .«pic_h») (t .y) (t .u) (t .v) → d ≡ ltb (length col) (mvLen * unitsOf (h .«pic_w») (h .«pic_h»)) → (a || b || c || has && d) ≡ short h p q t has col
+    → c ≡ planesShort (h .«pic_w») (h .«pic_h») (t .y) (t .u) (t .v) → d ≡ mapShort (h .«pic_w») (h .«pic_h») (length col) → (a || b || c || has && d) ≡ short h p q t has col
 unfolding pictureShort
 tested h p q t has col a b c d e₀ e₁ e₂ e₃ = rw (e₀, e₁, e₂, e₃)
 
@@ -62,7 +62,7 @@ module _ (s : List ℕ) (p q : Planes) (has : Bool) (col : List ℤ) (t : Planes
       let d = accepted 4 _ _ (omega arith) (c .1) in
       let W = headerOf 2 s .«pic_w» in
       let H = headerOf 2 s .«pic_h» in
-      let f = none-true (pictureShort W H p || pictureShort W H q || pictureShort W H t) (has && ltb (length col) (mvLen * unitsOf W H)) (d .0) in
+      let f = none-true (pictureShort W H p || pictureShort W H q || pictureShort W H t) (has && mapShort W H (length col)) (d .0) in
       (ltb-false _ _ (a .0), none-true (pictureShort W H p || pictureShort W H q) (pictureShort W H t) (f .0) .1)
 
   pub not-begun : (c : ℕ) → c ≡ headerCode s p q has col t → (c ≡ 0 → ⊥) → record { answer = record { code = c; index = 0 }; target = t } ≡ replayed s p q has col t

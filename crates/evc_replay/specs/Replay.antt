@@ -7,7 +7,7 @@ use lib.IntN.{ℤ}
 use lib.ListN.{length, take, drop}
 use Rattle.evc_def.specs.Blocks.{badPicture}
 use Rattle.evc_def.specs.Codes.{Check, _when_, firstOf}
-use Rattle.evc_util.specs.Units.{mvLen, unitsOf}
+use Rattle.evc_map.specs.Maps.{mapShort}
 use Rattle.evc_trace.specs.Format.{version, headerLen, recordLen, countLen, isTrace, headerOf}
 use Rattle.evc_record.specs.Record.{Planes, pictureShort, Source, source, stepOf, targetAfter}
 use Rattle.evc_replay.specs.declared.EvcReplay.{EvcReplay}
@@ -22,7 +22,7 @@ headerCode s p q has col t =
     (11 when ltb (length s) (headerLen countLen)
     ∷ 10 when not (isTrace version s)
     ∷ 1 when badPicture W H
-    ∷ 4 when (pictureShort W H p || pictureShort W H q || pictureShort W H t || has && ltb (length col) (mvLen * unitsOf W H))
+    ∷ 4 when (pictureShort W H p || pictureShort W H q || pictureShort W H t || has && mapShort W H (length col))
     ∷ [])
 
 -- ---- "Replay must equal the records applied one after another"

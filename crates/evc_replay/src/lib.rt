@@ -116,7 +116,7 @@ fn header_code(
     if evc_mc::planes_short(h.pic_w, h.pic_h, y0, u0, v0)
         | evc_mc::planes_short(h.pic_w, h.pic_h, y1, u1, v1)
         | evc_mc::planes_short(h.pic_w, h.pic_h, y, u, v)
-        | (has_col & evc_util::map_short(h.pic_w, h.pic_h, col_mv.len()))
+        | (has_col & evc_map::map_short(h.pic_w, h.pic_h, col_mv.len()))
     {
         return 4;
     }

@@ -12,9 +12,9 @@ use Rattle.evc_def.specs.Codes.{Check, firstOf}
 use Rattle.evc_def.specs.declared.EvcBlock.{EvcBlock}
 use Rattle.evc_def.specs.declared.EvcMv.{EvcMv}
 use Rattle.evc_def.proofs.Codes.{refuses, returned, refused, passed}
-use Rattle.evc_util.specs.Direct.{directChecks, collocated, directVectors, getMvDir}
-use Rattle.evc_util.specs.declared.EvcDirect.{EvcDirect}
-use Rattle.evc_util.specs.declared.Pocs.{Pocs}
+use Rattle.evc_direct.specs.Direct.{directChecks, collocated, directVectors, getMvDir}
+use Rattle.evc_direct.specs.declared.EvcDirect.{EvcDirect}
+use Rattle.evc_direct.specs.declared.Pocs.{Pocs}
 use Rattle.evc_mc.specs.Block.{mc2Code}
 use Rattle.evc_trace.specs.Format.{countLen, recordOf}
 use Rattle.evc_trace.specs.declared.TraceHeader.{TraceHeader}

@@ -3,10 +3,10 @@ ghost use Prim.Native.Nat.{_<_, _≤_};
 ghost use lib.ListN.{length};
 use evc_def::EvcBlock;
 use evc_def::EvcMv;
-use evc_util::EvcCandidates;
-use evc_util::EvcDirect;
-use evc_util::Motion;
-use evc_util::Pocs;
+use evc_direct::EvcDirect;
+use evc_direct::Pocs;
+use evc_motion::EvcCandidates;
+use evc_motion::Motion;
 use libc::STDIN_FILENO;
 use libc::STDOUT_FILENO;
 
@@ -113,7 +113,7 @@ fn words_of(r: &Record) -> [u32; 16]
 fn flags_agree(r: &Record) -> bool {
     let words = words_of(r);
     let n = lent(r, WORDS_LEN, 16);
-    let got = evc_util::evc_get_avail_inter(block_of(r), &words[..n]);
+    let got = evc_avail::evc_get_avail_inter(block_of(r), &words[..n]);
     (got.code == number(r, CODE)) & (got.avail as u32 == number(r, AVAIL_OUT))
 }
 
@@ -227,7 +227,7 @@ fn candidates_agree(r: &Record) -> bool {
     let avail = number(r, AVAIL) as u16;
     is_motion(
         r,
-        evc_util::get_motion(
+        evc_motion::get_motion(
             block_of(r),
             lidx,
             avail,
@@ -265,7 +265,7 @@ fn direct_agrees(r: &Record) -> bool {
     let n = lent(r, COL_LEN, 64);
     is_direct(
         r,
-        evc_util::evc_get_mv_dir(block_of(r), pocs_of(r), has_col(r), &col_mv[..n]),
+        evc_direct::evc_get_mv_dir(block_of(r), pocs_of(r), has_col(r), &col_mv[..n]),
     )
 }
 

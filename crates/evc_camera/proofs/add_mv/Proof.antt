@@ -12,9 +12,9 @@ use mir.Facts.{toZ-ofZ}
 use Rattle.evc_int.proofs.Machine.{res}
 use Rattle.evc_int.proofs.Whole.{of, nat, is-+, same}
 use Rattle.evc_def.specs.declared.EvcMv.{EvcMv}
+use Rattle.evc_map.specs.Maps.{mostUnits}
 use Rattle.evc_camera.specs.declared.Sums.{Sums}
 use Rattle.evc_camera.specs.Camera.{withMv}
-use Rattle.evc_camera.specs.Code.{mostUnits}
 use Rattle.evc_camera.proofs.Units.{sum-fits}
 use Rattle.evc_camera.proofs.add_mv.Statement.{statement}
 use Rattle.evc_camera.proofs.add_mv.Tie as tie

@@ -3,9 +3,11 @@ use Prim.Native.Nat.{_-_, _≤_}
 use mathlib.Core.Bool.{_||_}
 use mathlib.Core.Path.{_≡_, ap, subst, _∙_}
 use native.Mathlib.Omega.{arith}
+use Rattle.evc_map.specs.Maps.{mostUnits}
+use denote.Ref.{now}
 use Rattle.evc_camera.specs.Camera.{sumsOf}
-use Rattle.evc_camera.specs.Code.{mostUnits, Within}
-use Rattle.evc_camera.proofs.Units.{within-wider, within-more, one-more}
+use Rattle.evc_camera.specs.Code.{Within}
+use Rattle.evc_camera.proofs.Units.{counted-at, within-wider, within-more, one-more}
 use Rattle.evc_camera.proofs.add_units.Statement.{statement}
 use Rattle.evc_camera.proofs.add_units.Tie as tie
 
@@ -18,11 +20,8 @@ abbrev μ-loop : tie.MeasureT-loop
 loop-holds : tie.Need-loop-holds Inv-loop μ-loop
 loop-holds c = let p = c .before .pre in (omega arith, p .0 .0, p .1 .0, p .1 .1)
 
-word-at : tie.Need-mul-t12 Inv-loop μ-loop
-word-at c = record { fits = omega arith }
-
-word-there : tie.Need-shared-slice-read-t14 Inv-loop μ-loop
-word-there c = omega arith
+mcu-at-requires : tie.Need-mcu-at-requires Inv-loop μ-loop
+mcu-at-requires c κs = omega arith
 
 mv-at-requires : tie.Need-mv-at-requires Inv-loop μ-loop
 mv-at-requires c κs = (omega arith, omega arith)
@@ -39,12 +38,13 @@ loop-less c = omega arith
 loop-again : tie.Need-loop-again Inv-loop μ-loop
 loop-again c =
     let l = c .before .before .before .before .before .loop in
-    let all = c .before .before .before .before .before .before .before .pre .1 .2 in
+    let s = c .before .before .before .before .before .before .before in
+    let all = s .pre .1 .2 in
     let e = c .add-mv .ensures in (
       omega arith,
       omega arith,
-      one-more _ _ _ _ _ _ _ _ (l .inv .2) (c .before .before .IS-COD-NIF .ensures) (λ t. all t _ (l .inv .0) (omega arith)) (c .before .mv-at .ensures) (e .0),
-      within-more _ _ (c .before .before .before .before .before .before .before .args .all || c .before .before .IS-COD-NIF .result) (c .before .mv-at .result) _ (l .inv .3) (e .0) (e .1) (e .2),
+      one-more _ _ _ _ _ _ _ _ (l .inv .2) (counted-at (now (s .args .map-scu)) (l .i) _ _ (c .before .before .before .mcu-at .ensures) (c .before .before .IS-COD-NIF .ensures)) (λ t. all t _ (l .inv .0) (omega arith)) (c .before .mv-at .ensures) (e .0),
+      within-more _ _ (s .args .all || c .before .before .IS-COD-NIF .result) (c .before .mv-at .result) _ (l .inv .3) (e .0) (e .1) (e .2),
     )
 
 returns : tie.Need-returns Inv-loop μ-loop
@@ -60,8 +60,7 @@ add-units-spec =
     Inv-loop
     μ-loop
     loop-holds
-    word-at
-    word-there
+    mcu-at-requires
     (λ c κs. tt)
     mv-at-requires
     add-mv-requires

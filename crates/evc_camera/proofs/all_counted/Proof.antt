@@ -10,6 +10,7 @@ use denote.Ref.{now}
 use Rattle.evc_int.proofs.Bools.{both-true}
 use Rattle.evc_camera.specs.Camera.{isCounted}
 use Rattle.evc_camera.specs.Code.{AllCounted}
+use Rattle.evc_camera.proofs.Units.{counted-at}
 use Rattle.evc_camera.proofs.all_counted.Statement.{statement}
 use Rattle.evc_camera.proofs.all_counted.Tie as tie
 
@@ -22,11 +23,8 @@ abbrev μ-loop : tie.MeasureT-loop
 loop-holds : tie.Need-loop-holds Inv-loop μ-loop
 loop-holds c = (omega arith, c .before .pre .0, λ e i l k. absurd (omega arith))
 
-mul-t7 : tie.Need-mul-t7 Inv-loop μ-loop
-mul-t7 c = record { fits = omega arith }
-
-shared-slice-read-t9 : tie.Need-shared-slice-read-t9 Inv-loop μ-loop
-shared-slice-read-t9 c = omega arith
+mcu-at-requires : tie.Need-mcu-at-requires Inv-loop μ-loop
+mcu-at-requires c κs = omega arith
 
 add-i : tie.Need-add-i Inv-loop μ-loop
 add-i c = record { fits = omega arith }
@@ -43,7 +41,7 @@ one-more words from k all this h e t i l u =
 loop-again : tie.Need-loop-again Inv-loop μ-loop
 loop-again c =
     let z = c .before .before .before .before .before .args in
-    (omega arith, omega arith, one-more (now (z .map-scu)) _ _ _ _ (c .before .before .before .loop .inv .2) (c .IS-COD-NIF .ensures))
+    (omega arith, omega arith, one-more (now (z .map-scu)) _ _ _ _ (c .before .before .before .loop .inv .2) (counted-at (now (z .map-scu)) _ _ _ (c .before .mcu-at .ensures) (c .IS-COD-NIF .ensures)))
 
 returns : tie.Need-returns Inv-loop μ-loop
 returns c e i l u = c .before .loop .inv .2 e i l (omega arith)
@@ -55,8 +53,7 @@ all-counted-spec =
     Inv-loop
     μ-loop
     loop-holds
-    mul-t7
-    shared-slice-read-t9
+    mcu-at-requires
     (λ c κs. tt)
     add-i
     loop-less

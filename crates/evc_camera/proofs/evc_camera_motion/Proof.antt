@@ -6,7 +6,7 @@ use borrow.Author.Tests.{ne-eqb}
 use lib.IntN.{ℤ}
 use lib.ListN.{length}
 use Rattle.evc_def.specs.Codes.{firstOf}
-use Rattle.evc_util.specs.Units.{unitsOf}
+use Rattle.evc_map.specs.Maps.{unitsOf}
 use Rattle.evc_camera.specs.declared.Sums.{Sums}
 use Rattle.evc_camera.specs.declared.CameraMotion.{CameraMotion}
 use Rattle.evc_camera.specs.declared.CameraMotion.the-variants.{None}
@@ -45,15 +45,18 @@ unit-count-requires c κs = let k = covered _ _ _ _ (accepted-call c) in (k .acr
 
 sum-units-requires : tie.Need-sum-units-requires
 sum-units-requires c κs =
-    let k = covered _ _ _ _ (accepted-call (c .before)) in
-    let u = c .unit-count .ensures in
-    (u .1, few _ _ _ (u .0) (k .units), at-most 4 _ _ _ (u .0) (k .vectors))
+    let n = c .before in
+    let k = covered _ _ _ _ (accepted-call (n .before)) in
+    let i = c .index .ensures in
+    let u = n .unit-count .ensures in
+    (few _ _ _ i (u .1), few _ _ _ (i ∙ u .0) (k .units), at-most 4 _ _ _ (i ∙ u .0) (k .vectors))
 
 returns-2 : tie.Need-returns-2
 returns-2 c =
-    let u = c .before .before .before in
+    let i = c .before .before .before in
+    let u = i .before in
     let z = u .before .before .before .before .args in
-    done (z .pic-w) (z .pic-h) (z .map-mv .now) (z .map-scu .now) _ _ _ _ (accepted-call (u .before)) (u .unit-count .ensures .0) (c .before .before .sum-units .ensures .0) (c .before .motion-of .ensures) (c .answer2 .ensures)
+    done (z .pic-w) (z .pic-h) (z .map-mv .now) (z .map-scu .now) _ _ _ _ (accepted-call (u .before)) (i .index .ensures ∙ u .unit-count .ensures .0) (c .before .before .sum-units .ensures .0) (c .before .motion-of .ensures) (c .answer2 .ensures)
 
 pub evc-camera-motion-spec : {M : Type 1} → statement M
 evc-camera-motion-spec =
@@ -63,6 +66,7 @@ evc-camera-motion-spec =
     (λ c κs. tt)
     returns
     unit-count-requires
+    (λ c κs. tt)
     sum-units-requires
     (λ c κs. c .sum-units .ensures .1)
     (λ c κs. tt)

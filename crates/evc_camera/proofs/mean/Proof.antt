@@ -8,7 +8,7 @@ use lib.IntN.{ℤ, pos, negsuc, natAbs}
 use lib.Signed.{mag}
 use lib.Ieee.{binary64, inFloat}
 use mir.Facts.{toZ-ofZ}
-use Rattle.evc_camera.specs.Code.{mostUnits}
+use Rattle.evc_map.specs.Maps.{mostUnits}
 use Rattle.evc_camera.proofs.Once.{once}
 use Rattle.evc_camera.proofs.mean.Statement.{statement}
 use Rattle.evc_camera.proofs.mean.Tie as tie

@@ -12,10 +12,10 @@ use mir.Syntax.{w64}
 use mir.Val.{ofZ}
 use mir.Facts.{toZ-ofZ}
 use Rattle.evc_int.specs.Whole.{eqZ}
+use Rattle.evc_map.specs.Maps.{mostUnits}
 use Rattle.evc_camera.specs.declared.Sums.{Sums}
 use Rattle.evc_camera.specs.declared.CameraMotion.the-variants.{Moving}
 use Rattle.evc_camera.specs.Camera.{meanOf, motionOf}
-use Rattle.evc_camera.specs.Code.{mostUnits}
 use Rattle.evc_camera.proofs.Units.{sum-fits}
 use Rattle.evc_camera.proofs.motion_of.Statement.{statement}
 use Rattle.evc_camera.proofs.motion_of.Tie as tie

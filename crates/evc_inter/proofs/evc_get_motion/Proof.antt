@@ -49,18 +49,18 @@ use denote.Triple.Clauses.{ensured, lasts}
 use denote.Exit.{yes}
 use Rattle.evc_def.specs.declared.EvcBlock.{EvcBlock}
 use Rattle.evc_def.specs.declared.EvcMv.{EvcMv}
-use Rattle.evc_util.specs.Candidates.{getMotion, candidates}
-use Rattle.evc_util.specs.declared.EvcCandidates.{EvcCandidates}
-use Rattle.evc_util.specs.declared.Motion.{Motion}
+use Rattle.evc_motion.specs.Candidates.{getMotion, candidates}
+use Rattle.evc_motion.specs.declared.EvcCandidates.{EvcCandidates}
+use Rattle.evc_motion.specs.declared.Motion.{Motion}
 use Rattle.evc_inter.specs.Code.{blank}
 use Rattle.evc_def.proofs.EvcBlock as B
 use Rattle.evc_def.proofs.EvcBlock.Laws as B′
 use Rattle.evc_def.proofs.EvcMv as Mv
 use Rattle.evc_def.proofs.EvcMv.Laws as Mv′
-use Rattle.evc_util.proofs.EvcCandidates as T
-use Rattle.evc_util.proofs.EvcCandidates.Laws as T′
-use Rattle.evc_util.proofs.Motion as R
-use Rattle.evc_util.proofs.Motion.Laws as R′
+use Rattle.evc_motion.proofs.EvcCandidates as T
+use Rattle.evc_motion.proofs.EvcCandidates.Laws as T′
+use Rattle.evc_motion.proofs.Motion as R
+use Rattle.evc_motion.proofs.Motion.Laws as R′
 use Rattle.evc_inter.proofs.found_motion as by-value
 use Rattle.evc_inter.proofs.found_motion.Symbol as by-value-def
 use Rattle.evc_inter.proofs.found_motion.Symbol.{name as #evc-inter·found-motion}

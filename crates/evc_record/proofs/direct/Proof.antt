@@ -1,7 +1,7 @@
 -- `evc_replay::direct` meets its contract. Assumes nothing.
 use mathlib.Core.Path.{sym, _∙_}
 use borrow.Author.Needs.{needs}
-use Rattle.evc_util.proofs.Direct.{refusal, done}
+use Rattle.evc_direct.proofs.Direct.{refusal, done}
 use Rattle.evc_record.proofs.direct.Statement.{statement}
 use Rattle.evc_record.proofs.direct.Tie as tie
 

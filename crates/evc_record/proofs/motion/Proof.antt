@@ -6,9 +6,9 @@ use mathlib.Core.Path.{_≡_, ap₂, _∙_}
 use lib.IntN.{ℤ}
 use borrow.Author.Tests.{eq-eqb, ne-eqb}
 use Rattle.evc_def.specs.declared.EvcBlock.{EvcBlock}
-use Rattle.evc_util.specs.Direct.{getMvDir}
-use Rattle.evc_util.specs.declared.EvcDirect.{EvcDirect}
-use Rattle.evc_util.specs.declared.Pocs.{Pocs}
+use Rattle.evc_direct.specs.Direct.{getMvDir}
+use Rattle.evc_direct.specs.declared.EvcDirect.{EvcDirect}
+use Rattle.evc_direct.specs.declared.Pocs.{Pocs}
 use Rattle.evc_trace.specs.declared.TraceHeader.{TraceHeader}
 use Rattle.evc_trace.specs.declared.EvcTraceRecord.{EvcTraceRecord}
 use Rattle.evc_record.specs.Record.{blockOf, pocsOf, motionOf}

@@ -5,7 +5,7 @@ use Prim.Native.Nat.{_/_}
 use lib.Dec.{lit<}
 use lib.IntN.{pos}
 use lib.Signed.{shrZ, pos-natAbs}
-use mir.Syntax.{w32}
+use mir.Syntax.{w32, w64}
 use mir.Val.{SFits, toZ, ofZ}
 use mir.Facts.{toZ-ofZ}
 use Rattle.evc_int.specs.Whole.{_⁺}
@@ -29,7 +29,7 @@ cast-t4 c = simp (toZ-ofZ (own c), toZ-ofZ (fits-shr 4 (own c))) (to-unsigned (u
 returns : tie.Need-returns
 returns c =
     simp (toZ-ofZ (own c), toZ-ofZ (fits-shr 4 (own c)))
-    (pos-natAbs (shrZ (c .before .before .args .self .0) 4) (to-unsigned (unit c) {w = w32} (let f = own c in omega signed) .0))
+    (pos-natAbs (shrZ (c .before .before .args .self .0) 4) (to-unsigned (unit c) {w = w64} (let f = own c in omega signed) .0))
 
 pub scu-spec : {M : Type 1} → statement M
 scu-spec = tie.close (tie.spec (λ c. search needs) (λ c. search needs) cast-t4 returns)

@@ -1,4 +1,0 @@
-pub mod Units
-pub mod Flags
-pub mod Candidates
-pub mod Direct
