@@ -186,8 +186,8 @@ module _ (t : PlaneType) (W H : ℕ) (s : List ℕ) (done : padCode t W H s ≡ 
     small-accepted h =
         let S = strideOf t W in
         let small = none-exceeds u (pictureStart t W) S (sideOf t W) (sideOf t H) (λ y x ly lx.
-            let e : (padOf t + y) * S + (originOf t + x) ≡ padOf t * S + originOf t + y * S + x = omega arith in
-            rw (sym e) (h x y lx ly)) in
+        let e : (padOf t + y) * S + (originOf t + x) ≡ padOf t * S + originOf t + y * S + x = omega arith in
+        rw (sym e) (h x y lx ly)) in
         simp (accepts .0, le-ltb (length u) (planeLen t W H) long, small)
 
     -- the mirror of the picture

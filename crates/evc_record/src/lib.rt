@@ -13,13 +13,13 @@ ghost use Rattle.evc_record.specs.Record.{planes, pictureShort, source, 
 ghost use Rattle.evc_record.specs.Steps.{afterRecord};
 use evc_def::EvcBlock;
 use evc_def::EvcMv;
+use evc_direct::EvcDirect;
+use evc_direct::Pocs;
 use evc_mc::EvcList;
 use evc_plane::PlaneType;
 use evc_trace::EvcTraceRecord;
 use evc_trace::RECORD_LEN;
 use evc_trace::TraceHeader;
-use evc_direct::EvcDirect;
-use evc_direct::Pocs;
 
 // ---- a block's samples into the target
 

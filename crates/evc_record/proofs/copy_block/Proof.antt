@@ -1,4 +1,4 @@
--- `evc_replay::copy_block` meets its contract. The invariant: the first y rows are written. Assumes nothing.
+-- `evc_record::copy_block` meets its contract. The invariant: the first y rows are written. Assumes nothing.
 use Prim.Native.Nat.{ℕ, _+_, _-_, _*_, _<_, _≤_}
 use mathlib.Core.Path.{_≡_, refl, _∙_}
 use native.Mathlib.Omega.{arith}

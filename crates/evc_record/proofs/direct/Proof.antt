@@ -1,4 +1,4 @@
--- `evc_replay::direct` meets its contract. Assumes nothing.
+-- `evc_record::direct` meets its contract. Assumes nothing.
 use mathlib.Core.Path.{sym, _∙_}
 use borrow.Author.Needs.{needs}
 use Rattle.evc_direct.proofs.Direct.{refusal, done}

@@ -1,4 +1,4 @@
--- `evc_replay::form_code` meets its contract. Assumes nothing.
+-- `evc_record::form_code` meets its contract. Assumes nothing.
 use borrow.Author.Needs.{needs}
 use mathlib.Core.Bool.{Bool, true, false, not, _&&_}
 use mathlib.Core.List.{List}

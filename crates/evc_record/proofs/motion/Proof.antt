@@ -1,4 +1,4 @@
--- `evc_replay::motion` meets its contract. Assumes nothing.
+-- `evc_record::motion` meets its contract. Assumes nothing.
 use borrow.Author.Needs.{needs}
 use mathlib.Core.Bool.{Bool}
 use mathlib.Core.List.{List}

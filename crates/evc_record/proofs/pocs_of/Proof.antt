@@ -1,4 +1,4 @@
--- `evc_replay::pocs_of` meets its contract: the counts in their order. Assumes nothing.
+-- `evc_record::pocs_of` meets its contract: the counts in their order. Assumes nothing.
 use borrow.Author.Needs.{needs}
 use mathlib.Core.Path.{_≡_, refl}
 use Rattle.evc_trace.specs.declared.TraceHeader.{TraceHeader}

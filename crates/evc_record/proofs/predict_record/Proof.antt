@@ -1,4 +1,4 @@
--- `evc_replay::predict_record` meets its contract. Assumes nothing.
+-- `evc_record::predict_record` meets its contract. Assumes nothing.
 use borrow.Author.Needs.{needs}
 use mathlib.Core.Path.{_≡_}
 use Rattle.evc_record.proofs.Steps.{predicted}

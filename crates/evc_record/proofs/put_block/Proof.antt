@@ -1,4 +1,4 @@
--- `evc_replay::put_block` meets its contract. Assumes nothing.
+-- `evc_record::put_block` meets its contract. Assumes nothing.
 use borrow.Author.Needs.{needs}
 use mathlib.Core.Path.{_≡_, refl}
 use native.Mathlib.Omega.{arith}

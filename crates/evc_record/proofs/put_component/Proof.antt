@@ -1,4 +1,4 @@
--- `evc_replay::put_component` meets its contract. Assumes nothing.
+-- `evc_record::put_component` meets its contract. Assumes nothing.
 use borrow.Author.Needs.{needs}
 use mathlib.Core.List.{List}
 use mathlib.Core.Path.{_≡_, refl, _∙_}

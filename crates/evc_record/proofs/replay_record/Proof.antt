@@ -1,4 +1,4 @@
--- `evc_replay::replay_record` meets its contract. Assumes nothing.
+-- `evc_record::replay_record` meets its contract. Assumes nothing.
 use borrow.Author.Needs.{needs}
 use mathlib.Core.Path.{_≡_, sym, subst, _∙_}
 use mathlib.Core.Bool.{false}
