@@ -2,3 +2,4 @@ pub mod Checks
 pub mod Motion
 pub mod Samples
 pub mod Predictions
+pub mod Tail

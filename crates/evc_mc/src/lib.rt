@@ -4,7 +4,7 @@ ghost use lib.Dec.{eqb};
 ghost use Rattle.evc_int.specs.Whole.{eqZ};
 ghost use Prim.Native.Nat.{ℕ, _+_, _*_, _≤_};
 ghost use lib.IntN.{pos, _+ℤ_, _*ℤ_};
-ghost use lib.ListN.{length, getD};
+ghost use lib.ListN.{length, getD, drop};
 ghost use mir.Syntax.{w16};
 ghost use mir.Val.{SFits};
 ghost use Rattle.evc_int.specs.Lists.{withRow, withBlock};
@@ -14,6 +14,7 @@ ghost use Rattle.evc_clip.specs.Clip.{clippedPlace};
 ghost use Rattle.evc_interp.specs.Code.{Readable, sampleFrom};
 ghost use Rattle.evc_mc.specs.Block.{refPicList, Component, withSamples, listSample, firstSample, isBi, average, predLen};
 ghost use Rattle.evc_mc.specs.Block.{planesShort, listShort, pocExceeds, listExceeds, mc2Code, mc2First, mc2Second};
+ghost use Rattle.evc_mc.specs.Ends.{bothEnd, onceEnded};
 ghost use Rattle.evc_mc.specs.Steps.{either, ListExamined, withList, blockSample, RowSmall, BlockSmall};
 use evc_def::EvcBlock;
 use evc_def::EvcMv;
@@ -136,28 +137,29 @@ fn mc2_code(
 
 // ---- the prediction of one list
 
-// One picker handing back either of the two lent parts, which are cut at the plane's offset where they are lent.
-fn pick<'a>(a: &'a mut [u16], b: &'a mut [u16], second: bool) -> &'a mut [u16]
-    ensures { λ r. ⌜ r ≡ either second (a .entry) (b .entry) ⌝ }
+// One picker handing back the part of either lent block, from the plane's offset on. Once the part has ended, both blocks have (`bothEnd`).
+// `search` stands for the signature's lifetimes, which have no name in a clause.
+fn pick<'a>(
+    pred0: &'a mut [u16],
+    pred1: &'a mut [u16],
+    second: bool,
+    offset: usize,
+) -> &'a mut [u16]
+    requires { ⌜ offset ≤ length (either second (now pred0) (now pred1)) ⌝ }
+    ensures { λ r. ⌜ now r ≡ drop offset (either second (now (pred0 .entry)) (now (pred1 .entry))) ⌝ }
+    ensures { λ r. onceEnded 𝓤 H A (search) r (bothEnd 𝓤 H A (pred0 .entry) (pred1 .entry) second offset) }
 {
-    if second { b } else { a }
+    if second {
+        &mut pred1[offset..]
+    } else {
+        &mut pred0[offset..]
+    }
 }
 
-fn predict_picked(
-    t: PlaneType,
-    p: Position,
-    w: usize,
-    h: usize,
-    plane: &[u16],
-    part0: &mut [u16],
-    part1: &mut [u16],
-    second: bool,
-)
-    requires { ⌜ Readable t p w h (now plane) × (h * w ≤ length (either second (now part0) (now part1))) ⌝ }
-    ensures { λ _. ⌜ either second (now (part0 .exit)) (now (part1 .exit))
-        ≡ withBlock (either second (now (part0 .entry)) (now (part1 .entry))) 0 w w h (sampleFrom t p (now (plane .entry))) ⌝ }
+fn predict_at(t: PlaneType, p: Position, w: usize, h: usize, plane: &[u16], pred: &mut [u16])
+    requires { ⌜ Readable t p w h (now plane) × (h * w ≤ length (now pred)) ⌝ }
+    ensures { λ _. ⌜ now (pred .exit) ≡ withBlock (now (pred .entry)) 0 w w h (sampleFrom t p (now (plane .entry))) ⌝ }
 {
-    let pred = pick(part0, part1, second);
     evc_interp::predict(
         t,
         p.stride,
@@ -173,23 +175,15 @@ fn predict_picked(
     );
 }
 
-// The end of a part: its end where it is wanted, and its start, for an empty part, where it is not.
-fn end_if(wanted: bool, start: usize, end: usize) -> usize
-    requires { ⌜ start ≤ end ⌝ }
-    ensures { λ r. ⌜ (r ≡ either wanted start end) × (start ≤ r) × (r ≤ end) ⌝ }
-{
-    if wanted { end } else { start }
-}
-
-// One plane of a list to the picked block, at the plane's offset. Of the other block an empty part is lent.
-fn predict_component(
+// One plane of a list to the picked block, at the plane's offset.
+fn predict_component<'p, 'a>(
     t: PlaneType,
     p: Position,
     w: usize,
     h: usize,
-    plane: &[u16],
-    pred0: &mut [u16],
-    pred1: &mut [u16],
+    plane: &'p [u16],
+    pred0: &'a mut [u16],
+    pred1: &'a mut [u16],
     second: bool,
     offset: usize,
 )
@@ -198,19 +192,8 @@ fn predict_component(
     ensures { λ _. ⌜ now (pred0 .exit) ≡ either second (withBlock (now (pred0 .entry)) offset w w h (sampleFrom t p (now (plane .entry)))) (now (pred0 .entry)) ⌝ }
     ensures { λ _. ⌜ now (pred1 .exit) ≡ either second (now (pred1 .entry)) (withBlock (now (pred1 .entry)) offset w w h (sampleFrom t p (now (plane .entry)))) ⌝ }
 {
-    let end = offset + h * w;
-    let end0 = end_if(!second, offset, end);
-    let end1 = end_if(second, offset, end);
-    predict_picked(
-        t,
-        p,
-        w,
-        h,
-        plane,
-        &mut pred0[offset..end0],
-        &mut pred1[offset..end1],
-        second,
-    );
+    let pred = pick(pred0, pred1, second, offset);
+    predict_at(t, p, w, h, plane, pred);
 }
 
 // The three planes of a list, if it is in use, to the block that is picked.
