@@ -3,3 +3,5 @@ pub mod Motion
 pub mod Samples
 pub mod Predictions
 pub mod Tail
+pub mod Ends
+pub mod Walk

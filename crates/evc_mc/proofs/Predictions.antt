@@ -10,19 +10,9 @@ use Rattle.evc_def.specs.Codes.{firstOf, blockChecks}
 use Rattle.evc_def.specs.declared.EvcBlock.{EvcBlock}
 use Rattle.evc_interp.proofs.Windows.{accepts, predicted-small}
 use Rattle.evc_mc.specs.Block.{RefPicList, Component, typeOf, planeOf, widthOf, heightOf, withSamples, listSample, firstSample, sameMotion, isBi, average, listShort, listExceeds, predLen}
-use Rattle.evc_mc.specs.Steps.{either, withList, blockSample, BlockSmall}
+use Rattle.evc_mc.specs.Steps.{withList, blockSample, BlockSmall}
 use Rattle.evc_mc.proofs.Checks.{Sides, sides, plane-accepted, list-examined}
 use Rattle.evc_mc.proofs.Samples.{component-room, component-end, samples-at, samples-ext, samples-again}
-
-either-first : {X : Type 0} (t : Bool) (a b : X) → t ≡ false → either t a b ≡ a
-unfolding either
-either-first false a b e = refl
-either-first true a b e = absurd (subst T e tt)
-
-either-second : {X : Type 0} (t : Bool) (a b : X) → t ≡ true → either t a b ≡ b
-unfolding either
-either-second true a b e = refl
-either-second false a b e = absurd (subst T (sym e) tt)
 
 cond-true : {X : Type 0} (t : Bool) (a b : X) → t ≡ true → cond t a b ≡ a
 cond-true t a b e = ap (λ (t : Bool). cond t a b) e
@@ -86,18 +76,12 @@ module _ (b : EvcBlock) (l m : RefPicList) where
     kept : isBi b (l .list) (m .list) ≡ false → q ≡ cond (isBi b (l .list) (m .list)) (withSamples b (listSample b m) q) q
     kept e = sym (cond-false _ _ _ e)
 
-    module _ (a₀ a₁ : List ℕ) (e₀ : a₀ ≡ either false (withList b l p) p) (e₁ : a₁ ≡ either false q (withList b l q)) where
-      first-is : a₀ ≡ withList b l p
-      first-is = e₀ ∙ either-first false _ _ refl
-
-      second-is : a₁ ≡ q
-      second-is = e₁ ∙ either-first false _ _ refl
-
+    module _ (a₀ a₁ : List ℕ) (e₀ : a₀ ≡ withList b l p) (e₁ : a₁ ≡ q) where
       -- list 0 alone
       pub stands : l .list .used ≡ true → isBi b (l .list) (m .list) ≡ false → Left a₀ a₁
-      stands u n = (first-is ∙ list-used b l p u ∙ samples-ext b _ _ p (λ c y x ly lx. sym (cond-true _ _ _ u) ∙ first-one c y x n), second-is ∙ kept n)
+      stands u n = (e₀ ∙ list-used b l p u ∙ samples-ext b _ _ p (λ c y x ly lx. sym (cond-true _ _ _ u) ∙ first-one c y x n), e₁ ∙ kept n)
 
-      module _ (b₀ b₁ : List ℕ) (f₀ : b₀ ≡ either (l .list .used) (withList b m a₀) a₀) (f₁ : b₁ ≡ either (l .list .used) a₁ (withList b m a₁)) where
+      module _ (b₀ b₁ : List ℕ) (f₀ : b₀ ≡ cond (l .list .used) a₀ (withList b m a₀)) (f₁ : b₁ ≡ cond (l .list .used) (withList b m a₁) a₁) where
         -- one list is in use
         pub single : (l .list .used || m .list .used) ≡ true → (l .list .used && m .list .used) ≡ false → Left b₀ b₁
         single s n = go (l .list .used) (m .list .used) refl refl s n
@@ -106,19 +90,19 @@ module _ (b : EvcBlock) (l m : RefPicList) where
             go true true u w s k = absurd (subst T k tt)
             go true false u w s k =
                 let r = stands u (not-both n) in
-                (f₀ ∙ either-second _ _ _ u ∙ r .0, f₁ ∙ either-second _ _ _ u ∙ list-unused b m a₁ w ∙ r .1)
+                (f₀ ∙ cond-true _ _ _ u ∙ r .0, f₁ ∙ cond-true _ _ _ u ∙ list-unused b m a₁ w ∙ r .1)
             go false true u w s k = (
-              f₀ ∙ either-first _ _ _ u ∙ list-used b m a₀ w ∙ ap (withSamples b (listSample b m)) (first-is ∙ list-unused b l p u) ∙ samples-ext b _ _ p (λ c y x ly lx. sym (cond-false _ _ _ u) ∙ first-one c y x (not-both n)),
-              f₁ ∙ either-first _ _ _ u ∙ second-is ∙ kept (not-both n),
+              f₀ ∙ cond-false _ _ _ u ∙ list-used b m a₀ w ∙ ap (withSamples b (listSample b m)) (e₀ ∙ list-unused b l p u) ∙ samples-ext b _ _ p (λ c y x ly lx. sym (cond-false _ _ _ u) ∙ first-one c y x (not-both n)),
+              f₁ ∙ cond-false _ _ _ u ∙ e₁ ∙ kept (not-both n),
             )
             go false false u w s k = absurd (subst T (sym s) tt)
 
         module _ (u : l .list .used ≡ true) (w : m .list .used ≡ true) where
           both-0 : b₀ ≡ withSamples b (listSample b l) p
-          both-0 = f₀ ∙ either-second _ _ _ u ∙ first-is ∙ list-used b l p u
+          both-0 = f₀ ∙ cond-true _ _ _ u ∙ e₀ ∙ list-used b l p u
 
           both-1 : b₁ ≡ withSamples b (listSample b m) q
-          both-1 = f₁ ∙ either-second _ _ _ u ∙ list-used b m a₁ w ∙ ap (withSamples b (listSample b m)) second-is
+          both-1 = f₁ ∙ cond-true _ _ _ u ∙ list-used b m a₁ w ∙ ap (withSamples b (listSample b m)) e₁
 
           module _ (z : Sides b) (lp : predLen ≤ length p) (lq : predLen ≤ length q) where
             at-0 : (c : Component) (y x : ℕ) → y < heightOf b c → x < widthOf b c → blockSample b b₀ c y x ≡ listSample b l c y x

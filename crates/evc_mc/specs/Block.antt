@@ -8,10 +8,9 @@ use lib.ListN.{length, getD}
 use Rattle.evc_int.specs.Whole.{eqZ}
 use Rattle.evc_int.specs.Lists.{withBlock}
 use Rattle.evc_def.specs.Blocks.{maxPoc}
-use Rattle.evc_def.specs.Codes.{Check, _when_, firstOf, blockChecks}
+use Rattle.evc_def.specs.Codes.{_when_, firstOf, blockChecks}
 use Rattle.evc_def.specs.Tables.{tblCuDimOffset}
 use Rattle.evc_def.specs.declared.EvcBlock.{EvcBlock}
-use Rattle.evc_def.specs.declared.EvcMv.{EvcMv}
 use Rattle.evc_plane.specs.Planes.{sideOf, planeLen}
 use Rattle.evc_plane.specs.declared.PlaneType.{PlaneType}
 use Rattle.evc_plane.specs.declared.PlaneType.the-variants.{Y, UV}

@@ -1,5 +1,5 @@
 -- What stands between the checks and the prediction of a list.
-use mathlib.Core.Bool.{Bool, true, false, cond}
+use mathlib.Core.Bool.{true, false, cond}
 use mathlib.Core.List.{List}
 use mathlib.Core.Path.{_≡_}
 use Prim.Native.Nat.{ℕ, _+_, _*_, _<_, _≤_}
@@ -10,11 +10,6 @@ use Rattle.evc_plane.specs.Planes.{sideOf, planeLen}
 use Rattle.evc_plane.specs.declared.PlaneType.{PlaneType}
 use Rattle.evc_interp.specs.Prediction.{windowExceeds}
 use Rattle.evc_mc.specs.Block.{RefPicList, Component, typeOf, planeOf, offsetOf, widthOf, heightOf, listSample, withSamples}
-
--- the second of two where the flag is set, else the first: of two references, values or ends
-unfoldable pub either : {X : Type 0} → Bool → X → X → X
-either true a b = b
-either false a b = a
 
 -- what the checks leave of one plane
 pub record Examined (b : EvcBlock) (t : PlaneType) (gmv : EvcMv) (plane : List ℕ) : Type 0 where

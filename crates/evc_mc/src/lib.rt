@@ -15,7 +15,7 @@ ghost use Rattle.evc_interp.specs.Code.{Readable, sampleFrom};
 ghost use Rattle.evc_mc.specs.Block.{refPicList, Component, withSamples, listSample, firstSample, isBi, average, predLen};
 ghost use Rattle.evc_mc.specs.Block.{planesShort, listShort, pocExceeds, listExceeds, mc2Code, mc2First, mc2Second};
 ghost use Rattle.evc_mc.specs.Ends.{bothEnd, onceEnded};
-ghost use Rattle.evc_mc.specs.Steps.{either, ListExamined, withList, blockSample, RowSmall, BlockSmall};
+ghost use Rattle.evc_mc.specs.Steps.{ListExamined, withList, blockSample, RowSmall, BlockSmall};
 use evc_def::EvcBlock;
 use evc_def::EvcMv;
 use evc_def::MAX_POC;
@@ -137,23 +137,20 @@ fn mc2_code(
 
 // ---- the prediction of one list
 
-// One picker handing back the part of either lent block, from the plane's offset on. Once the part has ended, both blocks have (`bothEnd`).
-// `search` stands for the signature's lifetimes, which have no name in a clause.
+// One picker handing back the part of either lent block, from the plane's offset on. Once the part has ended, both blocks have.
+// `search` finds the lifetime, which has no name in a clause.
 fn pick<'a>(
     pred0: &'a mut [u16],
     pred1: &'a mut [u16],
     second: bool,
     offset: usize,
 ) -> &'a mut [u16]
-    requires { ⌜ offset ≤ length (either second (now pred0) (now pred1)) ⌝ }
-    ensures { λ r. ⌜ now r ≡ drop offset (either second (now (pred0 .entry)) (now (pred1 .entry))) ⌝ }
+    requires { ⌜ offset ≤ length (now (cond second pred1 pred0)) ⌝ }
+    ensures { λ r. ⌜ now r ≡ drop offset (now (cond second (pred1 .entry) (pred0 .entry))) ⌝ }
     ensures { λ r. onceEnded 𝓤 H A (search) r (bothEnd 𝓤 H A (pred0 .entry) (pred1 .entry) second offset) }
 {
-    if second {
-        &mut pred1[offset..]
-    } else {
-        &mut pred0[offset..]
-    }
+    let pred = if second { pred1 } else { pred0 };
+    &mut pred[offset..]
 }
 
 fn predict_at(t: PlaneType, p: Position, w: usize, h: usize, plane: &[u16], pred: &mut [u16])
@@ -189,8 +186,8 @@ fn predict_component<'p, 'a>(
 )
     requires { ⌜ Readable t p w h (now plane) ⌝ }
     requires { ⌜ (offset + h * w ≤ length (now pred0)) × (offset + h * w ≤ length (now pred1)) ⌝ }
-    ensures { λ _. ⌜ now (pred0 .exit) ≡ either second (withBlock (now (pred0 .entry)) offset w w h (sampleFrom t p (now (plane .entry)))) (now (pred0 .entry)) ⌝ }
-    ensures { λ _. ⌜ now (pred1 .exit) ≡ either second (now (pred1 .entry)) (withBlock (now (pred1 .entry)) offset w w h (sampleFrom t p (now (plane .entry)))) ⌝ }
+    ensures { λ _. ⌜ now (pred0 .exit) ≡ cond second (now (pred0 .entry)) (withBlock (now (pred0 .entry)) offset w w h (sampleFrom t p (now (plane .entry)))) ⌝ }
+    ensures { λ _. ⌜ now (pred1 .exit) ≡ cond second (withBlock (now (pred1 .entry)) offset w w h (sampleFrom t p (now (plane .entry)))) (now (pred1 .entry)) ⌝ }
 {
     let pred = pick(pred0, pred1, second, offset);
     predict_at(t, p, w, h, plane, pred);
@@ -211,8 +208,8 @@ fn predict_list(
     requires { ⌜ (firstOf (blockChecks b) ≡ 0) × (gmv ≡ clippedPlace b (list .mv)) ⌝ }
     requires { ⌜ ListExamined b gmv (refPicList list (now y) (now u) (now v)) ⌝ }
     requires { ⌜ (predLen ≤ length (now pred0)) × (predLen ≤ length (now pred1)) ⌝ }
-    ensures { λ _. ⌜ now (pred0 .exit) ≡ either second (withList b (refPicList list (now (y .entry)) (now (u .entry)) (now (v .entry))) (now (pred0 .entry))) (now (pred0 .entry)) ⌝ }
-    ensures { λ _. ⌜ now (pred1 .exit) ≡ either second (now (pred1 .entry)) (withList b (refPicList list (now (y .entry)) (now (u .entry)) (now (v .entry))) (now (pred1 .entry))) ⌝ }
+    ensures { λ _. ⌜ now (pred0 .exit) ≡ cond second (now (pred0 .entry)) (withList b (refPicList list (now (y .entry)) (now (u .entry)) (now (v .entry))) (now (pred0 .entry))) ⌝ }
+    ensures { λ _. ⌜ now (pred1 .exit) ≡ cond second (withList b (refPicList list (now (y .entry)) (now (u .entry)) (now (v .entry))) (now (pred1 .entry))) (now (pred1 .entry)) ⌝ }
 {
     if !list.used {
         return;

@@ -18,15 +18,15 @@ use Rattle.evc_interp.specs.Code.{positionOf, Readable, sampleFrom}
 use Rattle.evc_interp.specs.declared.Position.{Position}
 use Rattle.evc_interp.proofs.Windows.{accepts, readable, predicts}
 use Rattle.evc_mc.specs.Block.{RefPicList, refPicList, Component, luma, cb, cr, typeOf, planeOf, offsetOf, widthOf, heightOf, withComponent, withSamples, listSample, predLen}
-use Rattle.evc_mc.specs.Steps.{either, Examined, withList}
+use Rattle.evc_mc.specs.Steps.{Examined, withList}
 use Rattle.evc_mc.proofs.Checks.{sides, plane-accepted}
 use Rattle.evc_mc.proofs.Samples.{component-room, component-end}
 use Rattle.evc_mc.proofs.predict_list.Statement.{statement}
 use Rattle.evc_mc.proofs.predict_list.Tie as tie
 
 module _ (b : EvcBlock) (l : RefPicList) where
-  unused : (second : Bool) (p0 p1 : List ℕ) → l .list .used ≡ false → (p0 ≡ either second (withList b l p0) p0) × (p1 ≡ either second p1 (withList b l p1))
-  unfolding either withList
+  unused : (second : Bool) (p0 p1 : List ℕ) → l .list .used ≡ false → (p0 ≡ cond second p0 (withList b l p0)) × (p1 ≡ cond second (withList b l p1) p1)
+  unfolding withList
   unused true p0 p1 e = (refl, simp e)
   unused false p0 p1 e = (simp e, refl)
 
@@ -69,11 +69,10 @@ module _ (b : EvcBlock) (l : RefPicList) where
 
       -- both blocks, by which is picked
       done : (second : Bool) (o q : ℕ) (p0 p1 a0 a1 b0 b1 c0 c1 : List ℕ) → l .list .used ≡ true → o ≡ offsetOf cb → q ≡ offsetOf cr
-          → a0 ≡ either second (put luma 0 p0) p0 → a1 ≡ either second p1 (put luma 0 p1)
-          → b0 ≡ either second (put cb o a0) a0 → b1 ≡ either second a1 (put cb o a1)
-          → c0 ≡ either second (put cr q b0) b0 → c1 ≡ either second b1 (put cr q b1)
-          → (c0 ≡ either second (withList b l p0) p0) × (c1 ≡ either second p1 (withList b l p1))
-      unfolding either
+          → a0 ≡ cond second p0 (put luma 0 p0) → a1 ≡ cond second (put luma 0 p1) p1
+          → b0 ≡ cond second a0 (put cb o a0) → b1 ≡ cond second (put cb o a1) a1
+          → c0 ≡ cond second b0 (put cr q b0) → c1 ≡ cond second (put cr q b1) b1
+          → (c0 ≡ cond second p0 (withList b l p0)) × (c1 ≡ cond second (withList b l p1) p1)
       done true o q p0 p1 a0 a1 b0 b1 c0 c1 u eo eq x0 x1 y0 y1 z0 z1 = (z0 ∙ y0 ∙ x0, three o q p1 a1 b1 c1 u eo eq x1 y1 z1)
       done false o q p0 p1 a0 a1 b0 b1 c0 c1 u eo eq x0 x1 y0 y1 z0 z1 = (three o q p0 a0 b0 c0 u eo eq x0 y0 z0, z1 ∙ y1 ∙ x1)
 
