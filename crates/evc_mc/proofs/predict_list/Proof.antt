@@ -115,6 +115,7 @@ predict-component-requires-2 c κs =
     let a = s .args in
     let k = c .before .before .before .before .before .before .predict-component .kept .1 .1 .1 .1 .1 in
     let o = second c .before .before .before .cu-dim-offset .ensures in
+    let v = second c .before .before .cu-dim-offset2 .ensures in
     let r = component-room (a .b) (sides (a .b) (s .pre .0 .0)) cb in (
       reads (a .b) (refPicList (a .list) (a .y .now) (a .u .now) (a .v .now)) (a .gmv) cb _ (a .pred0 .now) (s .pre .0 .0) (s .pre .1 .0 (used p) cb) (s .pre .1 .1 .0) (q .position-of2 .ensures),
       (omega (arith, k .0, s .pre .1 .1 .0), omega (arith, k .1 .0, s .pre .1 .1 .1)),

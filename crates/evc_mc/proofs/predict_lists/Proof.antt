@@ -52,6 +52,18 @@ predict-list-requires-2 c κs =
     let n = c .before .before .before .before .before .before .before .before .predict-list .kept .1 .1 .1 .1 .1 .1 in
     ((g .block, e), (list-examined (a .b) (refPicList (a .list1) (a .y1 .now) (a .u1 .now) (a .v1 .now)) _ (g .m-short) (g .m-exceeds) e, (omega (arith, n .0, g .p-long), omega (arith, n .1 .0, g .q-long))))
 
+-- one list is in use
+returns-3 : tie.Need-returns-3
+returns-3 c =
+    let r = c .before .before .before .before .before in
+    let k = r .before .before .before .before in
+    let a = start k .args in
+    let g = good (start k) in
+    let p = first k .predict-list .ensures in
+    let q = r .predict-list2 .ensures in
+    single (a .b) (refPicList (a .list0) (a .y0 .now) (a .u0 .now) (a .v0 .now)) (refPicList (a .list1) (a .y1 .now) (a .u1 .now) (a .v1 .now)) (a .pred0 .now) (a .pred1 .now) _ _ (p .0) (p .1) _ _ (q .0) (q .1) (g .some-used) (c .if2 .left)
+
+-- two predictions
 average-block-requires : tie.Need-average-block-requires
 average-block-requires c κs =
     let r = c .before .before .before .before .before .before .before in
@@ -81,16 +93,6 @@ returns-2 c =
     let differs = sym (motion k) ∙ and-false-right (a .list0 .used && a .list1 .used) _ (r .before .before .before .if1 .left) both in
     averaged (a .b) (refPicList (a .list0) (a .y0 .now) (a .u0 .now) (a .v0 .now)) (refPicList (a .list1) (a .y1 .now) (a .u1 .now) (a .v1 .now)) (a .pred0 .now) (a .pred1 .now) _ _ (x .ensures .0) (x .ensures .1) _ _ (y .ensures .0) (y .ensures .1) (t .0) (t .1)
     (sides (a .b) (g .block)) (g .p-long) (g .q-long) _ (not-same (a .b) (refPicList (a .list0) (a .y0 .now) (a .u0 .now) (a .v0 .now)) (refPicList (a .list1) (a .y1 .now) (a .u1 .now) (a .v1 .now)) both differs) (c .before .before .average-block .ensures)
-
-returns-3 : tie.Need-returns-3
-returns-3 c =
-    let r = c .before .before .before .before .before in
-    let k = r .before .before .before .before in
-    let a = start k .args in
-    let g = good (start k) in
-    let p = first k .predict-list .ensures in
-    let q = r .predict-list2 .ensures in
-    single (a .b) (refPicList (a .list0) (a .y0 .now) (a .u0 .now) (a .v0 .now)) (refPicList (a .list1) (a .y1 .now) (a .u1 .now) (a .v1 .now)) (a .pred0 .now) (a .pred1 .now) _ _ (p .0) (p .1) _ _ (q .0) (q .1) (g .some-used) (c .if2 .left)
 
 pub predict-lists-spec : {M : Type 1} → statement M
 predict-lists-spec =
