@@ -43,7 +43,7 @@ use borrow.Table.Elements.{at, at-mul}
 use Rattle.evc_mc.specs.Ends.{withTail, endsAs, bothEnd, onceEnded}
 use Rattle.evc_mc.proofs.Ends.{gives-up, once-ended}
 use Rattle.evc_mc.proofs.Tail.{Tie, part, tail-out, tail-ends}
-use Rattle.evc_mc.proofs.Walk.{chooses, lets-go, tells}
+use Rattle.evc_mc.proofs.Walk.{slice, chooses, lets-go, tells}
 use Rattle.evc_mc.proofs.pick.Key.{name as #evc-mc·pick}
 use Rattle.evc_mc.proofs.pick as picker
 use Rattle.evc_mc.proofs.pick.Statement as stated
@@ -51,9 +51,6 @@ use Rattle.evc_mc.proofs.pick.Code as code
 
 abbrev stayed : Stays (picker.ended .signature .params) (picker.ended .kept)
 stayed = (stay-dropped (mutSliceOf (0 ∷ []) tt (plain (λ _. u16))) no, (stay-dropped (mutSliceOf (0 ∷ []) tt (plain (λ _. u16))) no, (stay-none (λ _. bool) yes, (stay-none (λ _. usize) yes, tt))))
-
-abbrev slice : RefT (List ℕ) → Val
-slice r = sliceVal (r .ptr) (length (r .now))
 
 -- the slice from k on, as the MIR computes it
 abbrev from-k : ℕ → RefT (List ℕ) → Val
