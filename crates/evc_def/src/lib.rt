@@ -3,13 +3,14 @@ ghost use mathlib.Core.Bool.{not, _&&_};
 ghost use Prim.Native.Nat.{ℕ, _+_, _<_, _^_};
 ghost use lib.Dec.{leb, eqb};
 ghost use lib.ListN.{getD};
-ghost use lib.IntN.{pos, _+ℤ_, _*ℤ_};
+ghost use lib.IntN.{pos, _+ℤ_, _-ℤ_, _*ℤ_};
 ghost use lib.Signed.{shrZ, _≤ℤ_};
-ghost use mir.Syntax.{w32};
+ghost use mir.Syntax.{w16, w32};
 ghost use mir.Val.{SFits};
-ghost use Rattle.evc_int.specs.Whole.{clip3};
+ghost use Rattle.evc_int.specs.Whole.{_modulo_, clip3};
 ghost use Rattle.evc_def.specs.Blocks.{isPictureSide, isBlockSide, badPicture, badBlock};
 ghost use Rattle.evc_def.specs.Codes.{firstOf, blockChecks};
+ghost use Rattle.evc_def.specs.Places.{givenPlace};
 ghost use Rattle.evc_def.specs.Tables.{tblCuDimOffset, isBit, isCoded, isIntra};
 
 // ---- def.rs: numbers
@@ -112,6 +113,11 @@ pub fn cu_dim_offset(c: usize) -> usize
 pub struct Pel(pub i32);
 // A position in quarter samples.
 pub struct Qpel(pub i32);
+// A place in a reference picture, across and down: qpel_gmv_x and qpel_gmv_y of the Rust.
+pub struct QpelPlace {
+    pub x: Qpel,
+    pub y: Qpel,
+}
 // An index in units of four samples (SCU), or a count of them.
 pub struct Scu(pub usize);
 
@@ -149,11 +155,37 @@ impl Scu {
 }
 
 impl Qpel {
-    // The whole sample at or before the position.
+    // A component as a call passes it.
+    pub fn new(z: i16) -> Qpel
+        ensures { λ r. ⌜ r .0 ≡ z ⌝ }
+    {
+        Qpel(z as i32)
+    }
+
+    // The whole sample at or before the position, and the quarters from there on.
     pub fn pel(self) -> Pel
         ensures { λ r. ⌜ r .0 ≡ shrZ (self .0) 4 ⌝ }
     {
         Pel(self.0 >> 2)
+    }
+
+    pub fn phase(self) -> usize
+        ensures { λ r. ⌜ r ≡ self .0 modulo 4 ⌝ }
+    {
+        (self.0 & 3) as usize
+    }
+
+    // The same of a chroma plane, which has half the sides: its samples are eight quarters apart.
+    pub fn chroma_pel(self) -> Pel
+        ensures { λ r. ⌜ r .0 ≡ shrZ (self .0) 8 ⌝ }
+    {
+        Pel(self.0 >> 3)
+    }
+
+    pub fn chroma_phase(self) -> usize
+        ensures { λ r. ⌜ r ≡ self .0 modulo 8 ⌝ }
+    {
+        (self.0 & 7) as usize
     }
 
     pub fn moved(self, mv: i16) -> Qpel
@@ -161,6 +193,14 @@ impl Qpel {
         ensures { λ r. ⌜ r .0 ≡ self .0 +ℤ mv ⌝ }
     {
         Qpel(self.0 + mv as i32)
+    }
+
+    // The component of the vector that leads from one position to another.
+    pub fn mv_to(self, to: Qpel) -> i16
+        requires { ⌜ SFits w16 (to .0 -ℤ self .0) ⌝ }
+        ensures { λ r. ⌜ r ≡ to .0 -ℤ self .0 ⌝ }
+    {
+        (to.0 - self.0) as i16
     }
 
     // EVC_CLIP3
@@ -183,6 +223,18 @@ impl Qpel {
 pub struct EvcMv {
     pub x: i16,
     pub y: i16,
+}
+
+impl QpelPlace {
+    // A place as a call passes it, in the two numbers of a vector.
+    pub fn given(gmv: EvcMv) -> QpelPlace
+        ensures { λ r. ⌜ r ≡ givenPlace gmv ⌝ }
+    {
+        QpelPlace {
+            x: Qpel::new(gmv.x),
+            y: Qpel::new(gmv.y),
+        }
+    }
 }
 
 // A block of a picture, in luma samples.
