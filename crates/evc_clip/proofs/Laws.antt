@@ -15,7 +15,7 @@ use Rattle.evc_int.proofs.Expressions.{Ex, !, _⊕_, _⊖_, _⊗_, neg, value, 
 use Rattle.evc_int.proofs.Division.{split-only}
 use Rattle.evc_int.proofs.Machine.{fit, rng}
 use Rattle.evc_def.specs.Blocks.{Allowed}
-use Rattle.evc_clip.specs.Clip.{margin, clipComponent}
+use Rattle.evc_clip.specs.Clip.{margin, clipComponent, placeOf}
 
 -- ---- a clipped component by its three cases, as facts of naturals
 
@@ -49,9 +49,6 @@ clips W x w mv = go _ _ (tested-ex place (! (− 256))) (tested-ex limit last)
     go false false (not-under a) (not-under b) = kept (omega arith) (omega arith) refl
 
 -- ---- the clipped place: the place itself, clipped to -256 .. 4 (W + 64 - w)
-
-abbrev pub placeOf : ℕ → ℤ → ℤ
-placeOf x mv = pos 4 *ℤ pos x +ℤ mv
 
 abbrev pub lastPlace : ℕ → ℕ → ℤ
 lastPlace W w = pos 4 *ℤ (pos W +ℤ pos margin -ℤ pos w)

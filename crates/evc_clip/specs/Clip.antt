@@ -7,8 +7,10 @@ use lib.IntN.{ℤ, pos, _+ℤ_, _-ℤ_, _*ℤ_}
 use lib.Signed.{ltZ}
 use Rattle.evc_int.specs.Whole.{−_}
 use Rattle.evc_def.specs.Codes.{firstOf, blockChecks, zeroMv}
+use Rattle.evc_def.specs.Places.{qpelPlace}
 use Rattle.evc_def.specs.declared.EvcBlock.{EvcBlock}
 use Rattle.evc_def.specs.declared.EvcMv.{EvcMv}
+use Rattle.evc_def.specs.declared.QpelPlace.{QpelPlace}
 use Rattle.evc_clip.specs.declared.EvcClipped.{EvcClipped}
 
 -- how many samples past the picture's last one a block's last one may lie, MAX_CU_SIZE of the Rust: "4(W - 1 + 64)"
@@ -30,11 +32,15 @@ clipMv b mv =
       y = clipComponent (b .«pic_h») (b .y) (b .h) (mv .y);
     }
 
+-- where a vector leads a block, in one direction: "4x + mvx"
+abbrev pub placeOf : ℕ → ℤ → ℤ
+placeOf x mv = pos 4 *ℤ pos x +ℤ mv
+
 -- "A list's clipped place is 4x + mvx across and 4y + mvy down, with the clipped vector.": qpel_gmv_x and qpel_gmv_y of the Rust
-unfoldable pub clippedPlace : EvcBlock → EvcMv → EvcMv
+unfoldable pub clippedPlace : EvcBlock → EvcMv → QpelPlace
 clippedPlace b mv =
     let clipped = clipMv b mv in
-    record { x = pos 4 *ℤ pos (b .x) +ℤ clipped .x; y = pos 4 *ℤ pos (b .y) +ℤ clipped .y }
+    qpelPlace (placeOf (b .x) (clipped .x)) (placeOf (b .y) (clipped .y))
 
 -- the call: "Error: 1, 2."
 unfoldable pub mvClip : EvcBlock → EvcMv → EvcClipped
