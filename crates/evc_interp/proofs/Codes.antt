@@ -12,13 +12,14 @@ use Rattle.evc_int.specs.Lists.{withBlock}
 use Rattle.evc_int.proofs.Bools.{all-true}
 use Rattle.evc_def.specs.Blocks.{badPicture}
 use Rattle.evc_def.specs.declared.EvcMv.{EvcMv}
+use Rattle.evc_def.specs.declared.QpelPlace.{QpelPlace}
 use Rattle.evc_def.proofs.Codes.{refused, passed, none}
 use Rattle.evc_plane.specs.declared.PlaneType.{PlaneType}
 use Rattle.evc_plane.specs.Planes.{planeLen}
 use Rattle.evc_interp.specs.Prediction.{predicted, isSide, windowExceeds, mcPlaneCode, mcPlaneAfter}
 use Rattle.evc_interp.proofs.Windows.{side}
 
-module _ (k : PlaneType) (W H : ℕ) (gmv : EvcMv) (w h : ℕ) (s d : List ℕ) where
+module _ (k : PlaneType) (W H : ℕ) (gmv : QpelPlace) (w h : ℕ) (s d : List ℕ) where
   pub code-1 : badPicture W H ≡ true → 1 ≡ mcPlaneCode k W H gmv w h s d
   unfolding mcPlaneCode
   code-1 b = sym (refused _ _ _ b)
@@ -46,7 +47,7 @@ module _ (k : PlaneType) (W H : ℕ) (gmv : EvcMv) (w h : ℕ) (s d : List ℕ) 
 pub size : (k : PlaneType) (w h : ℕ) → not (isSide k w && isSide k h) ≡ false → w * h ≤ 4096
 size k w h e = let t = all-true (isSide k w) (isSide k h) e in mul-le-mul (side k w (t .0) .small) (side k h (t .1) .small)
 
-module _ (k : PlaneType) (W H : ℕ) (ori gmv : EvcMv) (w h : ℕ) (s d : List ℕ) where
+module _ (k : PlaneType) (W H : ℕ) (ori : EvcMv) (gmv : QpelPlace) (w h : ℕ) (s d : List ℕ) where
   pub untouched : (n : ℕ) → 0 < n → n ≡ mcPlaneCode k W H gmv w h s d → (n ≡ mcPlaneCode k W H gmv w h s d) × (d ≡ mcPlaneAfter k W H ori gmv w h s d)
   unfolding mcPlaneAfter
   untouched n l e = (e, rw (sym e, ne-eqb n 0 (λ z. omega arith)))

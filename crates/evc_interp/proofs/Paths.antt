@@ -60,55 +60,55 @@ last-place UV step = refl
 
 -- in a window, across and down
 module _ (k : PlaneType) (s : List ℕ) (at stride w h : ℕ) where
-  pub across : Within s at stride (w + reach k) h → (y x : ℕ) → y < h → x < w → Near 1023 k s (at + y * stride + x) 1
-  across q y x ly lx j lj = subst (λ (i : ℕ). getD s i 0 ≤ 1023) (omega arith) (q y (x + j) ly (omega arith))
+  pub near-across : Within s at stride (w + reach k) h → (y x : ℕ) → y < h → x < w → Near 1023 k s (at + y * stride + x) 1
+  near-across q y x ly lx j lj = subst (λ (i : ℕ). getD s i 0 ≤ 1023) (omega arith) (q y (x + j) ly (omega arith))
 
-  pub down : Within s at stride w (h + reach k) → (y x : ℕ) → y < h → x < w → Near 1023 k s (at + y * stride + x) stride
-  down q y x ly lx j lj = subst (λ (i : ℕ). getD s i 0 ≤ 1023) (omega (arith, add-mul y j stride)) (q (y + j) x (omega arith) lx)
+  pub near-down : Within s at stride w (h + reach k) → (y x : ℕ) → y < h → x < w → Near 1023 k s (at + y * stride + x) stride
+  near-down q y x ly lx j lj = subst (λ (i : ℕ). getD s i 0 ≤ 1023) (omega (arith, add-mul y j stride)) (q (y + j) x (omega arith) lx)
 
 -- a single direction, n columns from column c on; across or down
 abbrev pub stepOf : Bool → ℕ → ℕ
-stepOf horizontal stride = cond horizontal 1 stride
+stepOf across stride = cond across 1 stride
 
-module _ (k : PlaneType) (s : List ℕ) (at stride w h : ℕ) (horizontal : Bool) (q : Within s at stride (w + cond horizontal (reach k) 0) (h + cond horizontal 0 (reach k))) where
-  near : (y x : ℕ) → y < h → x < w → Near 1023 k s (at + y * stride + x) (stepOf horizontal stride)
-  near = go horizontal q
+module _ (k : PlaneType) (s : List ℕ) (at stride w h : ℕ) (across : Bool) (q : Within s at stride (w + cond across (reach k) 0) (h + cond across 0 (reach k))) where
+  near : (y x : ℕ) → y < h → x < w → Near 1023 k s (at + y * stride + x) (stepOf across stride)
+  near = go across q
     where
       go : (b : Bool) → Within s at stride (w + cond b (reach k) 0) (h + cond b 0 (reach k)) → (y x : ℕ) → y < h → x < w → Near 1023 k s (at + y * stride + x) (stepOf b stride)
-      go true q = across k s at stride w h (λ y x ly lx. q y x (omega arith) lx)
-      go false q = down k s at stride w h (λ y x ly lx. q y x ly (omega arith))
+      go true q = near-across k s at stride w h (λ y x ly lx. q y x (omega arith) lx)
+      go false q = near-down k s at stride w h (λ y x ly lx. q y x ly (omega arith))
 
-  near-group : (c n : ℕ) → c + n ≤ w → (y x : ℕ) → y < h → x < n → Near 1023 k s (at + c + y * stride + x) (stepOf horizontal stride)
-  near-group c n l y x ly lx = subst (λ (i : ℕ). Near 1023 k s i (stepOf horizontal stride)) (omega arith) (near y (c + x) ly (omega arith))
+  near-group : (c n : ℕ) → c + n ≤ w → (y x : ℕ) → y < h → x < n → Near 1023 k s (at + c + y * stride + x) (stepOf across stride)
+  near-group c n l y x ly lx = subst (λ (i : ℕ). Near 1023 k s i (stepOf across stride)) (omega arith) (near y (c + x) ly (omega arith))
 
-  ends : at + (h + cond horizontal 0 (reach k)) * stride + (w + cond horizontal (reach k) 0) ≤ length s + stride → at + h * stride + w + reach k * stepOf horizontal stride ≤ length s + stride
-  ends = go horizontal
+  ends : at + (h + cond across 0 (reach k)) * stride + (w + cond across (reach k) 0) ≤ length s + stride → at + h * stride + w + reach k * stepOf across stride ≤ length s + stride
+  ends = go across
     where
       go : (b : Bool) → at + (h + cond b 0 (reach k)) * stride + (w + cond b (reach k) 0) ≤ length s + stride → at + h * stride + w + reach k * stepOf b stride ≤ length s + stride
       go true l = omega arith
       go false l = omega (arith, add-mul h (reach k) stride)
 
   -- n columns from column c on, whose first sample is at i
-  pub single-asks : (phase c n i : ℕ) (d : List ℕ) (o : Offsets) (t : Taps) → o ≡ offsetsOf k (stepOf horizontal stride) → t ≡ tapsOf k phase → phase < phases k → c + n ≤ w → i ≡ at + c
-      → at + (h + cond horizontal 0 (reach k)) * stride + (w + cond horizontal (reach k) 0) ≤ length s + stride → h * w ≤ length d
+  pub single-asks : (phase c n i : ℕ) (d : List ℕ) (o : Offsets) (t : Taps) → o ≡ offsetsOf k (stepOf across stride) → t ≡ tapsOf k phase → phase < phases k → c + n ≤ w → i ≡ at + c
+      → at + (h + cond across 0 (reach k)) * stride + (w + cond across (reach k) 0) ≤ length s + stride → h * w ≤ length d
       → Rows 1023 n stride h s i o t × (c + h * w + n ≤ length d + w)
   single-asks phase c n i d o t eo et l r e a b =
       let g = ends a in
       rw (eo, et, e) (
         record {
-          within = omega (arith, last-place k (stepOf horizontal stride));
-          ordered = offsets-ordered k (stepOf horizontal stride);
+          within = omega (arith, last-place k (stepOf across stride));
+          ordered = offsets-ordered k (stepOf across stride);
           small = taps-small k phase l;
-          bounded = λ y x ly lx. bounded 1023 k s (at + c + y * stride + x) (stepOf horizontal stride) (near-group c n r y x ly lx);
+          bounded = λ y x ly lx. bounded 1023 k s (at + c + y * stride + x) (stepOf across stride) (near-group c n r y x ly lx);
         },
         omega arith,
       )
 
-  pub single-gives : (phase : ℕ) → phase < phases k → (d : List ℕ) (o : Offsets) (t : Taps) → o ≡ offsetsOf k (stepOf horizontal stride) → t ≡ tapsOf k phase
-      → withBlock d 0 w w h (λ (y x : ℕ). singleAt s (at + y * stride + x) o t) ≡ withBlock d 0 w w h (λ (y x : ℕ). interpolated k phase s (at + y * stride + x) (stepOf horizontal stride))
+  pub single-gives : (phase : ℕ) → phase < phases k → (d : List ℕ) (o : Offsets) (t : Taps) → o ≡ offsetsOf k (stepOf across stride) → t ≡ tapsOf k phase
+      → withBlock d 0 w w h (λ (y x : ℕ). singleAt s (at + y * stride + x) o t) ≡ withBlock d 0 w w h (λ (y x : ℕ). interpolated k phase s (at + y * stride + x) (stepOf across stride))
   single-gives phase l d o t eo et =
       withBlock-ext d 0 w w h _ _
-      (λ y x ly lx. ap₂ (λ (o : Offsets) (t : Taps). singleAt s (at + y * stride + x) o t) eo et ∙ single-is k phase l s (at + y * stride + x) (stepOf horizontal stride) (bounded 1023 k s (at + y * stride + x) (stepOf horizontal stride) (near y x ly lx)))
+      (λ y x ly lx. ap₂ (λ (o : Offsets) (t : Taps). singleAt s (at + y * stride + x) o t) eo et ∙ single-is k phase l s (at + y * stride + x) (stepOf across stride) (bounded 1023 k s (at + y * stride + x) (stepOf across stride) (near y x ly lx)))
 
 -- a row of a window, read from its place on
 pub row-sample : (i : ℕ) (s : List ℕ) (x : ℕ) → getD (drop i s) x 0 ≡ getD s (i + x) 0
@@ -188,7 +188,7 @@ module _ (n h w lanes width : ℕ) (L : Lanes n h) (ln : n ≤ 8) (narrow : n < 
 
 module _ (k : PlaneType) (s m : List ℕ) (at stride n h dx : ℕ) (dx-small : dx < phases k) (q : Within s at stride (n + reach k) (h + reach k)) (ln : n ≤ 8) (l8 : (h + reach k) * 8 ≤ length m) where
   bound : (y x : ℕ) → y < h + reach k → x < n → Bounded 1023 s (at + y * stride + x) (offsetsOf k 1)
-  bound y x ly lx = bounded 1023 k s (at + y * stride + x) 1 (across k s at stride n (h + reach k) q y x ly lx)
+  bound y x ly lx = bounded 1023 k s (at + y * stride + x) 1 (near-across k s at stride n (h + reach k) q y x ly lx)
 
   long : (h + reach k) * n ≤ length m
   long = omega (arith, mul-le-mul-left (h + reach k) ln)

@@ -22,6 +22,7 @@ use Rattle.evc_int.proofs.Division.{modulo-lt}
 use Rattle.evc_int.proofs.Lists.{withBlock-ext}
 use Rattle.evc_def.specs.Blocks.{badPicture}
 use Rattle.evc_def.specs.declared.EvcMv.{EvcMv}
+use Rattle.evc_def.specs.declared.QpelPlace.{QpelPlace}
 use Rattle.evc_def.proofs.Codes.{accepted, or-yes}
 use Rattle.evc_plane.specs.declared.PlaneType.{PlaneType}
 use Rattle.evc_plane.specs.declared.PlaneType.the-variants.{Y, UV}
@@ -31,7 +32,7 @@ use Rattle.evc_samples.proofs.Samples.{exceeds-none}
 use Rattle.evc_plane.proofs.Sizes.{sizes}
 use Rattle.evc_filter.specs.Filter.{phases, lead, reach, interpolated, interpolatedTwice}
 use Rattle.evc_lanes.specs.Code.{isRowWidth}
-use Rattle.evc_interp.specs.Prediction.{phaseOf, placeOf, isFiltered, startOf, windowOf, sampleBy, predicted, isSide, windowExceeds, mcPlaneCode}
+use Rattle.evc_interp.specs.Prediction.{phaseOf, pelOf, isFiltered, startOf, windowOf, sampleBy, predicted, isSide, windowExceeds, mcPlaneCode}
 use Rattle.evc_interp.specs.Code.{Within, positionOf, Readable, sampleFrom}
 use Rattle.evc_interp.specs.declared.Position.{Position}
 
@@ -94,7 +95,7 @@ module _ (o n : ℕ) where
   -- a path's start, from that of both directions
   path-start : (k : PlaneType) (b : Bool) (z : ℤ) → (startAt o n (startOf k true z) ≤ startAt o n (startOf k b z)) × (startAt o n (startOf k b z) + cond b (lead k) 0 ≤ startAt o n (startOf k true z) + lead k)
   unfolding startOf
-  path-start k b z = nearer (placeOf k z) (lead k) (cond b (lead k) 0) (low b)
+  path-start k b z = nearer (pelOf k z) (lead k) (cond b (lead k) 0) (low b)
     where
       low : (b : Bool) → cond b (lead k) 0 ≤ lead k
       low true = omega arith
@@ -109,7 +110,7 @@ further UV false = (omega arith, omega arith)
 
 -- ---- an accepted call
 
-pub record Accepted (k : PlaneType) (W H : ℕ) (gmv : EvcMv) (w h : ℕ) (s d : List ℕ) : Type 0 where
+pub record Accepted (k : PlaneType) (W H : ℕ) (gmv : QpelPlace) (w h : ℕ) (s d : List ℕ) : Type 0 where
   pub picture : badPicture W H ≡ false
   pub w-side : Side k w
   pub h-side : Side k h
@@ -117,7 +118,7 @@ pub record Accepted (k : PlaneType) (W H : ℕ) (gmv : EvcMv) (w h : ℕ) (s d :
   pub room : w * h ≤ length d
   pub small : Within s (windowOf k W H true true gmv) (strideOf k W) (w + reach k) (h + reach k)
 
-pub accepts : (k : PlaneType) (W H : ℕ) (gmv : EvcMv) (w h : ℕ) (s d : List ℕ) → mcPlaneCode k W H gmv w h s d ≡ 0 → Accepted k W H gmv w h s d
+pub accepts : (k : PlaneType) (W H : ℕ) (gmv : QpelPlace) (w h : ℕ) (s d : List ℕ) → mcPlaneCode k W H gmv w h s d ≡ 0 → Accepted k W H gmv w h s d
 unfolding mcPlaneCode windowExceeds
 accepts k W H gmv w h s d e =
     let a = accepted _ _ _ (omega arith) e in
@@ -137,17 +138,17 @@ accepts k W H gmv w h s d e =
 
 -- ---- what a path asks: its window lies in the plane, and no sample of it is above 1023
 
-module _ (k : PlaneType) (W H : ℕ) (gmv : EvcMv) (w h : ℕ) (s d : List ℕ) (g : Accepted k W H gmv w h s d) (across down : Bool) where
+module _ (k : PlaneType) (W H : ℕ) (gmv : QpelPlace) (w h : ℕ) (s d : List ℕ) (g : Accepted k W H gmv w h s d) (across down : Bool) where
   in-window : (n m : ℕ) → n ≤ w + cond across (reach k) 0 → m ≤ h + cond down (reach k) 0 → Within s (windowOf k W H across down gmv) (strideOf k W) n m
   unfolding windowOf windowStart
   in-window n m ln lm y x ly lx =
       let S = strideOf k W in
-      let r₀ = startAt (padOf k) (sideOf k H) (startOf k true (gmv .y)) in
-      let c₀ = startAt (originOf k) (sideOf k W) (startOf k true (gmv .x)) in
-      let r = startAt (padOf k) (sideOf k H) (startOf k down (gmv .y)) in
-      let c = startAt (originOf k) (sideOf k W) (startOf k across (gmv .x)) in
-      let a = path-start (originOf k) (sideOf k W) k across (gmv .x) in
-      let b = path-start (padOf k) (sideOf k H) k down (gmv .y) in
+      let r₀ = startAt (padOf k) (sideOf k H) (startOf k true (gmv .y .0)) in
+      let c₀ = startAt (originOf k) (sideOf k W) (startOf k true (gmv .x .0)) in
+      let r = startAt (padOf k) (sideOf k H) (startOf k down (gmv .y .0)) in
+      let c = startAt (originOf k) (sideOf k W) (startOf k across (gmv .x .0)) in
+      let a = path-start (originOf k) (sideOf k W) k across (gmv .x .0) in
+      let b = path-start (padOf k) (sideOf k H) k down (gmv .y .0) in
       let p = further k across in
       let q = further k down in
       let e : r ≡ r₀ + (r - r₀) = omega arith in
@@ -162,7 +163,7 @@ module _ (k : PlaneType) (W H : ℕ) (gmv : EvcMv) (w h : ℕ) (s d : List ℕ) 
       let a = g .w-side .room in
       let b = g .h-side .room in
       let l = g .long in
-      omega (arith, window-fits k W H (g .picture) (startOf k across (gmv .x)) (startOf k down (gmv .y)) n m (omega arith) (omega arith))
+      omega (arith, window-fits k W H (g .picture) (startOf k across (gmv .x .0)) (startOf k down (gmv .y .0)) n m (omega arith) (omega arith))
 
   -- of the index and the stride that the code has
   pub path-asks : (at S : ℕ) → at ≡ windowOf k W H across down gmv → S ≡ strideOf k W → (n m : ℕ) → n ≤ w + cond across (reach k) 0 → m ≤ h + cond down (reach k) 0
@@ -183,7 +184,7 @@ phase-small k z n e = subst (λ (n : ℕ). n < phases k) (sym e) (modulo-lt (pha
 
 -- ---- an accepted call, from the position that the code has
 
-module _ (k : PlaneType) (W H : ℕ) (ori gmv : EvcMv) (w h : ℕ) (s : List ℕ) (p : Position) (e : p ≡ positionOf k W H ori gmv) where
+module _ (k : PlaneType) (W H : ℕ) (ori : EvcMv) (gmv : QpelPlace) (w h : ℕ) (s : List ℕ) (p : Position) (e : p ≡ positionOf k W H ori gmv) where
   pub readable : (d : List ℕ) → Accepted k W H gmv w h s d → Readable k p w h s
   unfolding positionOf
   readable d g = subst (λ (q : Position). Readable k q w h s) (sym e) given
@@ -205,8 +206,8 @@ module _ (k : PlaneType) (W H : ℕ) (ori gmv : EvcMv) (w h : ℕ) (s : List ℕ
             some = g .h-side .some;
             height = g .h-side .width;
             high = g .h-side .high;
-            dx-phase = phase-small k (gmv .x) _ refl;
-            dy-phase = phase-small k (gmv .y) _ refl;
+            dx-phase = phase-small k (gmv .x .0) _ refl;
+            dy-phase = phase-small k (gmv .y .0) _ refl;
             stride-small = stride-small k W H _ refl (g .picture);
           }
 
@@ -230,25 +231,24 @@ pub stride-is : (k : PlaneType) (W H : ℕ) (c : PlaneConfig) → c ≡ configOf
 unfolding configOf
 stride-is k W H c e = ap (λ (c : PlaneConfig). c .stride) e
 
-pub examined-asks : (k : PlaneType) (W H : ℕ) (gmv : EvcMv) (w h : ℕ) (s : List ℕ) (at S r : ℕ) → badPicture W H ≡ false → isSide k w ≡ true → isSide k h ≡ true → planeLen k W H ≤ length s
-    → at ≡ windowOf k W H true true gmv → S ≡ strideOf k W → r ≡ reach k → (at + (h + r) * S + (w + r) ≤ length s + S) × (4 ≤ w + r) × (0 < h + r)
+-- of a window of n columns and m rows, and a plane of l samples
+pub examined-asks : (k : PlaneType) (W H : ℕ) (gmv : QpelPlace) (l at S n m : ℕ) → badPicture W H ≡ false → planeLen k W H ≤ l → at ≡ windowOf k W H true true gmv → S ≡ strideOf k W
+    → (n ≤ padOf k) × (m ≤ padOf k) × (4 ≤ n) × (0 < m) → (at + m * S + n ≤ l + S) × (4 ≤ n) × (0 < m)
 unfolding windowOf
-examined-asks k W H gmv w h s at S r good sw sh l e f g =
-    let a = side k w sw in
-    let b = side k h sh in
-    rw (e, f, g) (omega (arith, window-fits k W H good (startOf k true (gmv .x)) (startOf k true (gmv .y)) (w + reach k) (h + reach k) (a .room) (b .room)), a .wide, omega (arith, b .some))
+examined-asks k W H gmv l at S n m good long e f b =
+    rw (e, f) (omega (arith, window-fits k W H good (startOf k true (gmv .x .0)) (startOf k true (gmv .y .0)) n m (b .0) (b .1)), b .2, b .3)
 
-pub examined-is : (k : PlaneType) (W H : ℕ) (gmv : EvcMv) (w h : ℕ) (s : List ℕ) (at S r : ℕ) → at ≡ windowOf k W H true true gmv → S ≡ strideOf k W → r ≡ reach k → exceeds s at S (w + r) (h + r) ≡ windowExceeds k W H gmv w h s
+pub examined-is : (k : PlaneType) (W H : ℕ) (gmv : QpelPlace) (w h : ℕ) (s : List ℕ) (at S r : ℕ) → at ≡ windowOf k W H true true gmv → S ≡ strideOf k W → r ≡ reach k → exceeds s at S (w + r) (h + r) ≡ windowExceeds k W H gmv w h s
 unfolding windowExceeds
 examined-is k W H gmv w h s at S r e f g = rw (e, f, g)
 
 -- ---- predicted samples are at most 1023: a filtered one is clipped, and a copied one was examined
 
-pub predicted-small : (k : PlaneType) (W H : ℕ) (ori gmv : EvcMv) (w h : ℕ) (s d : List ℕ) → Accepted k W H gmv w h s d → (y x : ℕ) → y < h → x < w → predicted k W H ori gmv s y x ≤ 1023
+pub predicted-small : (k : PlaneType) (W H : ℕ) (ori : EvcMv) (gmv : QpelPlace) (w h : ℕ) (s d : List ℕ) → Accepted k W H gmv w h s d → (y x : ℕ) → y < h → x < w → predicted k W H ori gmv s y x ≤ 1023
 unfolding predicted sampleBy interpolated interpolatedTwice
 predicted-small k W H ori gmv w h s d g y x ly lx = go (isFiltered k (ori .x)) (isFiltered k (ori .y))
   where
-    go : (across down : Bool) → sampleBy k across down (phaseOf k (gmv .x)) (phaseOf k (gmv .y)) s (windowOf k W H across down gmv + y * strideOf k W + x) (strideOf k W) ≤ 1023
+    go : (across down : Bool) → sampleBy k across down (phaseOf k (gmv .x .0)) (phaseOf k (gmv .y .0)) s (windowOf k W H across down gmv + y * strideOf k W + x) (strideOf k W) ≤ 1023
     go false false = path-asks k W H gmv w h s d g false false _ _ refl refl w h (omega arith) (omega arith) .1 y x ly lx
     go true false = omega arith
     go false true = omega arith

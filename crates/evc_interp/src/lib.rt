@@ -6,14 +6,17 @@ ghost use lib.IntN.{pos};
 ghost use lib.ListN.{length, getD};
 ghost use Rattle.evc_int.specs.Lists.{withRow, withBlock};
 ghost use Rattle.evc_def.specs.Blocks.{badPicture};
+ghost use Rattle.evc_def.specs.Places.{givenPlace};
 ghost use Rattle.evc_plane.specs.Planes.{sideOf, planeLen};
 ghost use Rattle.evc_filter.specs.Filter.{phases, lead, reach, interpolated, interpolatedTwice};
 ghost use Rattle.evc_lanes.specs.Code.{isRowWidth};
-ghost use Rattle.evc_interp.specs.Prediction.{phaseOf, placeOf, isFiltered, startOf, windowOf, isSide, windowExceeds, mcPlaneCode, mcPlaneAfter};
+ghost use Rattle.evc_interp.specs.Prediction.{phaseOf, pelOf, isFiltered, startOf, windowOf, isSide, windowExceeds, mcPlaneCode, mcPlaneAfter};
 ghost use Rattle.evc_interp.specs.declared.Position.{Position};
 ghost use Rattle.evc_interp.specs.Code.{Within, positionOf, Readable, sampleFrom};
 use evc_def::EvcMv;
 use evc_def::Pel;
+use evc_def::Qpel;
+use evc_def::QpelPlace;
 use evc_plane::PlaneType;
 
 // ---- the four paths, by the directions that are filtered: across and down
@@ -252,30 +255,31 @@ fn evc_mc_nn(
     }
 }
 
-// ---- path, phase and place
+// ---- path, phase and whole sample
 
-fn place(t: PlaneType, z: i16) -> Pel
-    ensures { λ r. ⌜ r .0 ≡ placeOf t z ⌝ }
+fn pel(t: PlaneType, z: Qpel) -> Pel
+    ensures { λ r. ⌜ r .0 ≡ pelOf t (z .0) ⌝ }
 {
     match t {
-        PlaneType::Y => Pel((z as i32) >> 2),
-        PlaneType::UV => Pel((z as i32) >> 3),
+        PlaneType::Y => z.pel(),
+        PlaneType::UV => z.chroma_pel(),
     }
 }
 
-fn phase(t: PlaneType, z: i16) -> usize
-    ensures { λ r. ⌜ r ≡ phaseOf t z ⌝ }
+fn phase(t: PlaneType, z: Qpel) -> usize
+    ensures { λ r. ⌜ r ≡ phaseOf t (z .0) ⌝ }
 {
     match t {
-        PlaneType::Y => (z as i32 & 3) as usize,
-        PlaneType::UV => (z as i32 & 7) as usize,
+        PlaneType::Y => z.phase(),
+        PlaneType::UV => z.chroma_phase(),
     }
 }
 
+// By a component of the original vector.
 fn is_filtered(t: PlaneType, mv: i16) -> bool
     ensures { λ r. ⌜ r ≡ isFiltered t mv ⌝ }
 {
-    phase(t, mv) != 0
+    phase(t, Qpel::new(mv)) != 0
 }
 
 fn lead(t: PlaneType) -> i32
@@ -287,14 +291,14 @@ fn lead(t: PlaneType) -> i32
     }
 }
 
-fn start(t: PlaneType, filtered: bool, z: i16) -> Pel
-    ensures { λ r. ⌜ r .0 ≡ startOf t filtered z ⌝ }
+fn start(t: PlaneType, filtered: bool, z: Qpel) -> Pel
+    ensures { λ r. ⌜ r .0 ≡ startOf t filtered (z .0) ⌝ }
 {
-    let at = place(t, z);
+    let at = pel(t, z);
     if filtered { Pel(at.0 - lead(t)) } else { at }
 }
 
-fn window(t: PlaneType, pic_w: u32, pic_h: u32, across: bool, down: bool, gmv: EvcMv) -> usize
+fn window(t: PlaneType, pic_w: u32, pic_h: u32, across: bool, down: bool, gmv: QpelPlace) -> usize
     requires { ⌜ badPicture «pic_w» «pic_h» ≡ false ⌝ }
     ensures { λ r. ⌜ r ≡ windowOf t «pic_w» «pic_h» across down gmv ⌝ }
 {
@@ -317,7 +321,7 @@ pub struct Position {
     pub dy: usize,
 }
 
-pub fn position_of(t: PlaneType, pic_w: u32, pic_h: u32, ori_mv: EvcMv, gmv: EvcMv) -> Position
+pub fn position_of(t: PlaneType, pic_w: u32, pic_h: u32, ori_mv: EvcMv, gmv: QpelPlace) -> Position
     requires { ⌜ badPicture «pic_w» «pic_h» ≡ false ⌝ }
     ensures { λ r. ⌜ r ≡ positionOf t «pic_w» «pic_h» «ori_mv» gmv ⌝ }
 {
@@ -383,7 +387,7 @@ pub fn window_exceeds(
     t: PlaneType,
     pic_w: u32,
     pic_h: u32,
-    gmv: EvcMv,
+    gmv: QpelPlace,
     w: u32,
     h: u32,
     plane: &[u16],
@@ -408,7 +412,7 @@ pub fn windows_exceed(
     t: PlaneType,
     pic_w: u32,
     pic_h: u32,
-    gmv: EvcMv,
+    gmv: QpelPlace,
     w: u32,
     h: u32,
     u: &[u16],
@@ -439,7 +443,7 @@ fn evc_mc_l(
     pic_w: u32,
     pic_h: u32,
     ori_mv: EvcMv,
-    gmv: EvcMv,
+    gmv: QpelPlace,
     w: u32,
     h: u32,
     plane: &[u16],
@@ -482,7 +486,7 @@ fn evc_mc_c(
     pic_w: u32,
     pic_h: u32,
     ori_mv: EvcMv,
-    gmv: EvcMv,
+    gmv: QpelPlace,
     w: u32,
     h: u32,
     plane: &[u16],
@@ -532,14 +536,15 @@ pub fn evc_mc_plane(
     plane: &[u16],
     pred: &mut [u16],
 ) -> u32
-    ensures { λ r. ⌜ r ≡ mcPlaneCode t «pic_w» «pic_h» gmv w h (now (plane .entry)) (now (pred .entry)) ⌝ }
-    ensures { λ _. ⌜ now (pred .exit) ≡ mcPlaneAfter t «pic_w» «pic_h» «ori_mv» gmv w h (now (plane .entry)) (now (pred .entry)) ⌝ }
+    ensures { λ r. ⌜ r ≡ mcPlaneCode t «pic_w» «pic_h» (givenPlace gmv) w h (now (plane .entry)) (now (pred .entry)) ⌝ }
+    ensures { λ _. ⌜ now (pred .exit) ≡ mcPlaneAfter t «pic_w» «pic_h» «ori_mv» (givenPlace gmv) w h (now (plane .entry)) (now (pred .entry)) ⌝ }
 {
     if evc_def::bad_picture(pic_w, pic_h) {
         return 1;
     }
+    let place = QpelPlace::given(gmv);
     match t {
-        PlaneType::Y => evc_mc_l(pic_w, pic_h, ori_mv, gmv, w, h, plane, pred),
-        PlaneType::UV => evc_mc_c(pic_w, pic_h, ori_mv, gmv, w, h, plane, pred),
+        PlaneType::Y => evc_mc_l(pic_w, pic_h, ori_mv, place, w, h, plane, pred),
+        PlaneType::UV => evc_mc_c(pic_w, pic_h, ori_mv, place, w, h, plane, pred),
     }
 }

@@ -1,9 +1,10 @@
 -- `evc_interp::evc_mc_plane` meets its contract: refused, or the call of its plane. Assumes nothing.
-use mathlib.Core.Path.{_≡_, sym, ap, _∙_}
+use mathlib.Core.Path.{_≡_, sym, ap₂, _∙_}
 use mathlib.Core.Bool.{false}
 use native.Mathlib.Omega.{arith}
 use borrow.Author.Needs.{needs}
 use Rattle.evc_def.specs.Blocks.{badPicture}
+use Rattle.evc_def.specs.declared.QpelPlace.{QpelPlace}
 use Rattle.evc_plane.specs.declared.PlaneType.{PlaneType}
 use Rattle.evc_interp.specs.Prediction.{mcPlaneCode, mcPlaneAfter}
 use Rattle.evc_interp.proofs.Codes.{code-1, untouched}
@@ -23,20 +24,22 @@ returns-2 : tie.Need-returns-2
 returns-2 c =
     let q = c .before .before in
     let t = q .before .before in
-    let a = start (t .before .before .before) .args in
+    let g = t .before .before in
+    let a = start (g .before .before) .args in
     let e = sym (t .enum-told .given .1) in (
-      q .evc-mc-l .ensures .0 ∙ ap (λ (k : PlaneType). mcPlaneCode k (a .pic-w) (a .pic-h) (a .gmv) (a .w) (a .h) (a .plane .now) (a .pred .now)) e,
-      q .evc-mc-l .ensures .1 ∙ ap (λ (k : PlaneType). mcPlaneAfter k (a .pic-w) (a .pic-h) (a .ori-mv) (a .gmv) (a .w) (a .h) (a .plane .now) (a .pred .now)) e,
+      q .evc-mc-l .ensures .0 ∙ ap₂ (λ (t : PlaneType) (p : QpelPlace). mcPlaneCode t (a .pic-w) (a .pic-h) p (a .w) (a .h) (a .plane .now) (a .pred .now)) e (g .given .ensures),
+      q .evc-mc-l .ensures .1 ∙ ap₂ (λ (t : PlaneType) (p : QpelPlace). mcPlaneAfter t (a .pic-w) (a .pic-h) (a .ori-mv) p (a .w) (a .h) (a .plane .now) (a .pred .now)) e (g .given .ensures),
     )
 
 returns-3 : tie.Need-returns-3
 returns-3 c =
     let q = c .before .before in
     let t = q .before .before in
-    let a = start (t .before .before .before) .args in
+    let g = t .before .before in
+    let a = start (g .before .before) .args in
     let e = sym (t .enum-told2 .given .1) in (
-      q .evc-mc-c .ensures .0 ∙ ap (λ (k : PlaneType). mcPlaneCode k (a .pic-w) (a .pic-h) (a .gmv) (a .w) (a .h) (a .plane .now) (a .pred .now)) e,
-      q .evc-mc-c .ensures .1 ∙ ap (λ (k : PlaneType). mcPlaneAfter k (a .pic-w) (a .pic-h) (a .ori-mv) (a .gmv) (a .w) (a .h) (a .plane .now) (a .pred .now)) e,
+      q .evc-mc-c .ensures .0 ∙ ap₂ (λ (t : PlaneType) (p : QpelPlace). mcPlaneCode t (a .pic-w) (a .pic-h) p (a .w) (a .h) (a .plane .now) (a .pred .now)) e (g .given .ensures),
+      q .evc-mc-c .ensures .1 ∙ ap₂ (λ (t : PlaneType) (p : QpelPlace). mcPlaneAfter t (a .pic-w) (a .pic-h) (a .ori-mv) p (a .w) (a .h) (a .plane .now) (a .pred .now)) e (g .given .ensures),
     )
 
 pub evc-mc-plane-spec : {M : Type 1} → statement M
@@ -45,10 +48,11 @@ evc-mc-plane-spec =
     (tie.spec
     (λ c κs. search needs)
     returns
+    (λ c κs. search needs)
     (λ c. search needs)
-    (λ c κs. picture (c .before .before .before))
+    (λ c κs. picture (c .before .before .before .before))
     (λ c. search needs)
-    (λ c κs. picture (c .before .before .before))
+    (λ c κs. picture (c .before .before .before .before))
     (λ c. search needs)
     returns-2
     (λ c. search needs)
