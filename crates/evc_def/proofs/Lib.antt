@@ -1,4 +1,4 @@
 pub mod Codes
 pub mod SideBits
 pub mod Blocks
-pub mod Phases
+pub mod Positions

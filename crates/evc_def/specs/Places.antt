@@ -1,5 +1,7 @@
 -- Places in quarter samples.
+use mathlib.Core.Bool.{Bool, _&&_}
 use lib.IntN.{ℤ}
+use Rattle.evc_int.specs.Whole.{eqZ}
 use Rattle.evc_def.specs.declared.EvcMv.{EvcMv}
 use Rattle.evc_def.specs.declared.QpelPlace.{QpelPlace}
 
@@ -10,3 +12,6 @@ qpelPlace x y = record { x = record { 0 = x }; y = record { 0 = y } }
 -- "the given signed 16-bit position": a call passes a place in the two numbers of a vector
 abbrev pub givenPlace : EvcMv → QpelPlace
 givenPlace gmv = qpelPlace (gmv .x) (gmv .y)
+
+abbrev pub isSame : QpelPlace → QpelPlace → Bool
+isSame p q = eqZ (p .x .0) (q .x .0) && eqZ (p .y .0) (q .y .0)

@@ -13,7 +13,7 @@ use Rattle.evc_int.proofs.Bools.{both-true, all-true, none-true, and-false-righ
 use Rattle.evc_def.specs.Blocks.{isBlockSide, isInside, badPicture, badBlock}
 use Rattle.evc_def.specs.Codes.{firstOf, blockChecks}
 use Rattle.evc_def.specs.declared.EvcBlock.{EvcBlock}
-use Rattle.evc_def.specs.declared.EvcMv.{EvcMv}
+use Rattle.evc_def.specs.declared.QpelPlace.{QpelPlace}
 use Rattle.evc_def.proofs.Codes.{accepted, passed, none, both-accepted, or-yes}
 use Rattle.evc_def.proofs.Blocks.{allowed-block}
 use Rattle.evc_plane.specs.Planes.{sideOf, planeLen}
@@ -63,7 +63,7 @@ plane-side UV n e =
 
 -- ---- one plane: the prediction takes it, with any block that is long enough
 
-pub plane-accepted : (b : EvcBlock) (t : PlaneType) (gmv : EvcMv) (s d : List ℕ) → firstOf (blockChecks b) ≡ 0 → Examined b t gmv s → sideOf t (b .h) * sideOf t (b .w) ≤ length d
+pub plane-accepted : (b : EvcBlock) (t : PlaneType) (gmv : QpelPlace) (s d : List ℕ) → firstOf (blockChecks b) ≡ 0 → Examined b t gmv s → sideOf t (b .h) * sideOf t (b .w) ≤ length d
     → mcPlaneCode t (b .«pic_w») (b .«pic_h») gmv (sideOf t (b .w)) (sideOf t (b .h)) s d ≡ 0
 unfolding mcPlaneCode
 plane-accepted b t gmv s d e x r =
@@ -104,11 +104,11 @@ module _ (b : EvcBlock) (l : RefPicList) (u : l .list .used ≡ true) where
       go e cb = none-true (componentExceeds b l luma) _ (none-true _ (componentExceeds b l cr) e .0) .1
       go e cr = none-true (componentExceeds b l luma || componentExceeds b l cb) _ e .1
 
-pub list-examined : (b : EvcBlock) (l : RefPicList) (gmv : EvcMv) → listShort b l ≡ false → listExceeds b l ≡ false → gmv ≡ clippedPlace b (l .list .mv) → ListExamined b gmv l
+pub list-examined : (b : EvcBlock) (l : RefPicList) (gmv : QpelPlace) → listShort b l ≡ false → listExceeds b l ≡ false → gmv ≡ clippedPlace b (l .list .mv) → ListExamined b gmv l
 list-examined b l gmv e f p u c =
     record {
       long = list-long b l u e c;
-      small = subst (λ (g : EvcMv). windowExceeds (typeOf c) (b .«pic_w») (b .«pic_h») g (widthOf b c) (heightOf b c) (planeOf c l) ≡ false) (sym p) (list-small b l u f c);
+      small = subst (λ (g : QpelPlace). windowExceeds (typeOf c) (b .«pic_w») (b .«pic_h») g (widthOf b c) (heightOf b c) (planeOf c l) ≡ false) (sym p) (list-small b l u f c);
     }
 
 -- ---- an accepted call

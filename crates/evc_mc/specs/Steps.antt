@@ -5,19 +5,19 @@ use mathlib.Core.Path.{_≡_}
 use Prim.Native.Nat.{ℕ, _+_, _*_, _<_, _≤_}
 use lib.ListN.{length, getD}
 use Rattle.evc_def.specs.declared.EvcBlock.{EvcBlock}
-use Rattle.evc_def.specs.declared.EvcMv.{EvcMv}
+use Rattle.evc_def.specs.declared.QpelPlace.{QpelPlace}
 use Rattle.evc_plane.specs.Planes.{sideOf, planeLen}
 use Rattle.evc_plane.specs.declared.PlaneType.{PlaneType}
 use Rattle.evc_interp.specs.Prediction.{windowExceeds}
 use Rattle.evc_mc.specs.Block.{RefPicList, Component, typeOf, planeOf, offsetOf, widthOf, heightOf, listSample, withSamples}
 
 -- what the checks leave of one plane
-pub record Examined (b : EvcBlock) (t : PlaneType) (gmv : EvcMv) (plane : List ℕ) : Type 0 where
+pub record Examined (b : EvcBlock) (t : PlaneType) (gmv : QpelPlace) (plane : List ℕ) : Type 0 where
   pub long : planeLen t (b .«pic_w») (b .«pic_h») ≤ length plane
   pub small : windowExceeds t (b .«pic_w») (b .«pic_h») gmv (sideOf t (b .w)) (sideOf t (b .h)) plane ≡ false
 
 -- and of a list: of its three planes, if it is in use
-abbrev pub ListExamined : EvcBlock → EvcMv → RefPicList → Type 0
+abbrev pub ListExamined : EvcBlock → QpelPlace → RefPicList → Type 0
 ListExamined b gmv l = l .list .used ≡ true → (c : Component) → Examined b (typeOf c) gmv (planeOf c l)
 
 -- a lent block after a list was predicted to it: as it was, if the list is not in use

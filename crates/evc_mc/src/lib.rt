@@ -1,15 +1,12 @@
 ghost use mathlib.Core.Path.{_≡_};
 ghost use mathlib.Core.Bool.{false, cond, _&&_};
 ghost use lib.Dec.{eqb};
-ghost use Rattle.evc_int.specs.Whole.{eqZ};
 ghost use Prim.Native.Nat.{ℕ, _+_, _*_, _≤_};
-ghost use lib.IntN.{pos, _+ℤ_, _*ℤ_};
 ghost use lib.ListN.{length, getD, drop};
-ghost use mir.Syntax.{w16};
-ghost use mir.Val.{SFits};
 ghost use Rattle.evc_int.specs.Lists.{withRow, withBlock};
 ghost use Rattle.evc_def.specs.Blocks.{badPicture};
 ghost use Rattle.evc_def.specs.Codes.{firstOf, blockChecks};
+ghost use Rattle.evc_def.specs.Places.{isSame};
 ghost use Rattle.evc_clip.specs.Clip.{clippedPlace};
 ghost use Rattle.evc_interp.specs.Code.{Readable, sampleFrom};
 ghost use Rattle.evc_mc.specs.Block.{refPicList, Component, withSamples, listSample, firstSample, isBi, average, predLen};
@@ -19,7 +16,7 @@ ghost use Rattle.evc_mc.specs.Steps.{ListExamined, withList, blockSample
 use evc_def::EvcBlock;
 use evc_def::EvcMv;
 use evc_def::MAX_POC;
-use evc_def::Pel;
+use evc_def::QpelPlace;
 use evc_interp::Position;
 use evc_plane::PlaneType;
 
@@ -29,27 +26,6 @@ pub struct EvcList {
     pub used: bool,
     pub mv: EvcMv,
     pub poc: u32,
-}
-
-// ---- the clipped place
-
-// qpel_gmv_x, qpel_gmv_y: one component.
-fn qpel_gmv(place: u32, mv: i16) -> i16
-    requires { ⌜ (place ≤ 8128) × SFits w16 (pos 4 *ℤ pos place +ℤ mv) ⌝ }
-    ensures { λ r. ⌜ r ≡ pos 4 *ℤ pos place +ℤ mv ⌝ }
-{
-    Pel::new(place).qpel().moved(mv).0 as i16
-}
-
-fn clipped_place(b: EvcBlock, mv: EvcMv) -> EvcMv
-    requires { ⌜ firstOf (blockChecks b) ≡ 0 ⌝ }
-    ensures { λ r. ⌜ r ≡ clippedPlace b mv ⌝ }
-{
-    let mv_t = evc_clip::clip_mv(b, mv);
-    EvcMv {
-        x: qpel_gmv(b.x, mv_t.x),
-        y: qpel_gmv(b.y, mv_t.y),
-    }
 }
 
 // ---- the checks, each over one list
@@ -78,7 +54,7 @@ fn poc_exceeds(list: EvcList) -> bool
     list.used & (MAX_POC < list.poc)
 }
 
-fn list_exceeds(b: EvcBlock, list: EvcList, gmv: EvcMv, y: &[u16], u: &[u16], v: &[u16]) -> bool
+fn list_exceeds(b: EvcBlock, list: EvcList, gmv: QpelPlace, y: &[u16], u: &[u16], v: &[u16]) -> bool
     requires { ⌜ (firstOf (blockChecks b) ≡ 0) × (gmv ≡ clippedPlace b (list .mv)) ⌝ }
     requires { ⌜ listShort b (refPicList list (now y) (now u) (now v)) ≡ false ⌝ }
     ensures { λ r. ⌜ r ≡ listExceeds b (refPicList list (now (y .entry)) (now (u .entry)) (now (v .entry))) ⌝ }
@@ -96,12 +72,12 @@ fn list_exceeds(b: EvcBlock, list: EvcList, gmv: EvcMv, y: &[u16], u: &[u16], v:
 fn mc2_code(
     b: EvcBlock,
     list0: EvcList,
-    gmv0: EvcMv,
+    gmv0: QpelPlace,
     y0: &[u16],
     u0: &[u16],
     v0: &[u16],
     list1: EvcList,
-    gmv1: EvcMv,
+    gmv1: QpelPlace,
     y1: &[u16],
     u1: &[u16],
     v1: &[u16],
@@ -197,7 +173,7 @@ fn predict_component<'p, 'a>(
 fn predict_list(
     b: EvcBlock,
     list: EvcList,
-    gmv: EvcMv,
+    gmv: QpelPlace,
     y: &[u16],
     u: &[u16],
     v: &[u16],
@@ -277,10 +253,10 @@ fn average_block(b: EvcBlock, pred0: &mut [u16], pred1: &[u16])
 }
 
 // Equal counts, and equal clipped vectors: equal places of the same block.
-fn same_motion(list0: EvcList, gmv0: EvcMv, list1: EvcList, gmv1: EvcMv) -> bool
-    ensures { λ r. ⌜ r ≡ eqb (list0 .poc) (list1 .poc) && eqZ (gmv0 .x) (gmv1 .x) && eqZ (gmv0 .y) (gmv1 .y) ⌝ }
+fn same_motion(list0: EvcList, gmv0: QpelPlace, list1: EvcList, gmv1: QpelPlace) -> bool
+    ensures { λ r. ⌜ r ≡ eqb (list0 .poc) (list1 .poc) && isSame gmv0 gmv1 ⌝ }
 {
-    (list0.poc == list1.poc) & (gmv0.x == gmv1.x) & (gmv0.y == gmv1.y)
+    (list0.poc == list1.poc) & gmv0.is_same(gmv1)
 }
 
 // ---- the call
@@ -288,12 +264,12 @@ fn same_motion(list0: EvcList, gmv0: EvcMv, list1: EvcList, gmv1: EvcMv) -> bool
 fn predict_lists(
     b: EvcBlock,
     list0: EvcList,
-    gmv0: EvcMv,
+    gmv0: QpelPlace,
     y0: &[u16],
     u0: &[u16],
     v0: &[u16],
     list1: EvcList,
-    gmv1: EvcMv,
+    gmv1: QpelPlace,
     y1: &[u16],
     u1: &[u16],
     v1: &[u16],
@@ -352,8 +328,8 @@ pub fn evc_mc2(
     if block_code != 0 {
         return block_code;
     }
-    let gmv0 = clipped_place(block, list0.mv);
-    let gmv1 = clipped_place(block, list1.mv);
+    let gmv0 = evc_clip::clipped_place(block, list0.mv);
+    let gmv1 = evc_clip::clipped_place(block, list1.mv);
     let code = mc2_code(
         block,
         list0,

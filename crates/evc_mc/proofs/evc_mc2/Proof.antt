@@ -7,6 +7,7 @@ use borrow.Author.Needs.{needs}
 use borrow.Author.Tests.{ne-eqb}
 use Rattle.evc_def.specs.Codes.{firstOf, blockChecks}
 use Rattle.evc_def.specs.declared.EvcBlock.{EvcBlock}
+use Rattle.evc_def.proofs.Blocks.{allowed-block}
 use Rattle.evc_def.proofs.Codes.{stops}
 use Rattle.evc_mc.specs.Block.{RefPicList, refPicList, withSamples, listSample, firstSample, isBi, mc2Code, mc2First, mc2Second}
 use Rattle.evc_mc.proofs.evc_mc2.Statement.{statement}
@@ -71,8 +72,8 @@ evc-mc2-spec =
     (tie.spec
     (λ c κs. search needs)
     returns
-    (λ c κs. good c)
-    (λ c κs. good (c .before))
+    (λ c κs. allowed-block _ (good c))
+    (λ c κs. allowed-block _ (good (c .before)))
     mc2-code-requires
     (λ c. search needs)
     (λ c. search needs)

@@ -3,7 +3,7 @@ use mathlib.Core.Bool.{Bool, true, false, _||_}
 use mathlib.Core.Path.{_≡_, refl}
 use borrow.Author.Tests.{not-true, not-false}
 use Rattle.evc_def.specs.declared.EvcBlock.{EvcBlock}
-use Rattle.evc_def.specs.declared.EvcMv.{EvcMv}
+use Rattle.evc_def.specs.declared.QpelPlace.{QpelPlace}
 use Rattle.evc_plane.specs.declared.PlaneType.the-variants.{Y, UV}
 use Rattle.evc_clip.specs.Clip.{clippedPlace}
 use Rattle.evc_interp.specs.Prediction.{windowExceeds}
@@ -17,7 +17,7 @@ module _ (b : EvcBlock) (l : RefPicList) where
   unfolding listExceeds
   unused e = simp e
 
-  exceeds-is : (gmv : EvcMv) (p q : Bool) → l .list .used ≡ true → gmv ≡ clippedPlace b (l .list .mv)
+  exceeds-is : (gmv : QpelPlace) (p q : Bool) → l .list .used ≡ true → gmv ≡ clippedPlace b (l .list .mv)
       → p ≡ windowExceeds Y (b .«pic_w») (b .«pic_h») gmv (b .w) (b .h) (l .y)
       → q ≡ windowExceeds UV (b .«pic_w») (b .«pic_h») gmv (widthOf b cb) (heightOf b cb) (l .u) || windowExceeds UV (b .«pic_w») (b .«pic_h») gmv (widthOf b cr) (heightOf b cr) (l .v)
       → (p || q) ≡ listExceeds b l

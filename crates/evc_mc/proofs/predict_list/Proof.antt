@@ -9,7 +9,7 @@ use borrow.Author.Needs.{needs}
 use borrow.Author.Tests.{not-true, not-false}
 use Rattle.evc_int.specs.Lists.{withBlock}
 use Rattle.evc_def.specs.declared.EvcBlock.{EvcBlock}
-use Rattle.evc_def.specs.declared.EvcMv.{EvcMv}
+use Rattle.evc_def.specs.declared.QpelPlace.{QpelPlace}
 use Rattle.evc_def.specs.Codes.{firstOf, blockChecks}
 use Rattle.evc_plane.specs.declared.PlaneType.the-variants.{Y, UV}
 use Rattle.evc_clip.specs.Clip.{clippedPlace}
@@ -30,7 +30,7 @@ module _ (b : EvcBlock) (l : RefPicList) where
   unused true p0 p1 e = (refl, simp e)
   unused false p0 p1 e = (simp e, refl)
 
-  module _ (gmv : EvcMv) where
+  module _ (gmv : QpelPlace) where
     -- a component from its position
     reads : (c : Component) (p : Position) (d : List ℕ) → firstOf (blockChecks b) ≡ 0 → Examined b (typeOf c) gmv (planeOf c l) → predLen ≤ length d → p ≡ positionOf (typeOf c) (b .«pic_w») (b .«pic_h») (l .list .mv) gmv
         → Readable (typeOf c) p (widthOf b c) (heightOf b c) (planeOf c l)
@@ -58,7 +58,7 @@ module _ (b : EvcBlock) (l : RefPicList) where
       put-is c o d f =
           ap (λ (o : ℕ). put c o d) f
           ∙ predicts (typeOf c) (b .«pic_w») (b .«pic_h») (l .list .mv) gmv (widthOf b c) (heightOf b c) (planeOf c l) (at c) (at-is c) d (offsetOf c)
-          ∙ ap (λ (g : EvcMv). withBlock d (offsetOf c) (widthOf b c) (widthOf b c) (heightOf b c) (predicted (typeOf c) (b .«pic_w») (b .«pic_h») (l .list .mv) g (planeOf c l))) e
+          ∙ ap (λ (g : QpelPlace). withBlock d (offsetOf c) (widthOf b c) (widthOf b c) (heightOf b c) (predicted (typeOf c) (b .«pic_w») (b .«pic_h») (l .list .mv) g (planeOf c l))) e
 
       three : (o q : ℕ) (d d₁ d₂ d₃ : List ℕ) → l .list .used ≡ true → o ≡ offsetOf cb → q ≡ offsetOf cr → d₁ ≡ put luma 0 d → d₂ ≡ put cb o d₁ → d₃ ≡ put cr q d₂ → d₃ ≡ withList b l d
       unfolding withList withSamples

@@ -2,7 +2,7 @@
 use borrow.Author.Needs.{needs}
 use mir.Syntax.{w32}
 use mir.Val.{SFits}
-use Rattle.evc_def.proofs.Phases.{unsigned-8, phase-8}
+use Rattle.evc_def.proofs.Positions.{unsigned-8, phase-8}
 use Rattle.evc_def.proofs.Qpel.chroma_phase.Statement.{statement}
 use Rattle.evc_def.proofs.Qpel.chroma_phase.Tie as tie
 

@@ -2,7 +2,7 @@
 use borrow.Author.Needs.{needs}
 use mir.Syntax.{w32}
 use mir.Val.{SFits}
-use Rattle.evc_def.proofs.Phases.{unsigned-4, phase-4}
+use Rattle.evc_def.proofs.Positions.{unsigned-4, phase-4}
 use Rattle.evc_def.proofs.Qpel.phase.Statement.{statement}
 use Rattle.evc_def.proofs.Qpel.phase.Tie as tie
 

@@ -1,17 +1,21 @@
--- The low bits of a machine number, which are its remainder, for negative numbers too. Assumes nothing.
-use mathlib.Core.Path.{_≡_, refl, ap, _∙_}
-use Prim.Native.Nat.{ℕ, _-_, _%_, _<_, _≤_}
+-- Positions in machine numbers: their low bits, and whether two are equal. Assumes nothing.
+use mathlib.Core.Bool.{Bool, true, false}
+use mathlib.Core.Path.{_≡_, refl, sym, ap, _∙_}
+use Prim.Native.Nat.{ℕ, suc, _-_, _%_, _<_, _≤_}
 use native.Mathlib.Omega.{arith}
-use lib.Dec.{T}
+use borrow.Author.Tests.{eqb-true, eq-eqb, ne-eqb}
+use lib.Dec.{T, eqb}
 use lib.Bits.{bitAnd, and-mask}
 use lib.IntN.{ℤ, pos, negsuc, natAbs}
 use lib.Signed.{nonNeg}
 use mir.Syntax.{w32, w64}
 use mir.Val.{SFits, Fits, toZ, ofZ}
-use Rattle.evc_int.specs.Whole.{_modulo_}
+use Rattle.evc_int.specs.Whole.{_modulo_, eqZ}
 use Rattle.evc_int.proofs.Whole.{Is, nat, is-by, same}
 use Rattle.evc_int.proofs.Division.{modulo-lt}
 use Rattle.evc_int.proofs.Machine.{is-bits, to-unsigned}
+
+-- ---- the low bits are the remainder, for negative numbers too
 
 -- for any modulus m whose mask is m - 1
 module _ (m : ℕ) (mask : (n : ℕ) → bitAnd n (m - 1) ≡ n % m) (rest : (z : ℤ) → SFits w32 z → ofZ w32 z % m ≡ z modulo m) (some : 0 < m) (few : m ≤ 8) (z : ℤ) (f : SFits w32 z) where
@@ -51,3 +55,19 @@ module _ (z : ℤ) (f : SFits w32 z) where
 
   pub phase-8 : natAbs (toZ w32 (bitAnd (ofZ w32 z) 7)) ≡ z modulo 8
   phase-8 = is-rest 8 (λ n. and-mask n 3) rest-8 (omega arith) (omega arith) z f
+
+-- ---- numbers are equal where their bits are
+
+same-answer : (p q : Bool) → (p ≡ true → q ≡ true) → (q ≡ true → p ≡ true) → p ≡ q
+same-answer true q f g = sym (f refl)
+same-answer false true f g = g refl
+same-answer false false f g = refl
+
+pub bits-eq : (a b : ℤ) → SFits w32 a → SFits w32 b → eqb (ofZ w32 a) (ofZ w32 b) ≡ eqZ a b
+bits-eq (pos a) (pos b) f g = refl
+bits-eq (pos a) (negsuc b) f g = let k : a < 2147483648 = f .sfits in let l : b < 2147483648 = g .sfits in ne-eqb a (4294967296 - suc b) (λ e. omega arith)
+bits-eq (negsuc a) (pos b) f g = let k : a < 2147483648 = f .sfits in let l : b < 2147483648 = g .sfits in ne-eqb (4294967296 - suc a) b (λ e. omega arith)
+bits-eq (negsuc a) (negsuc b) f g =
+    let k : a < 2147483648 = f .sfits in
+    let l : b < 2147483648 = g .sfits in
+    same-answer (eqb (4294967296 - suc a) (4294967296 - suc b)) (eqb a b) (λ e. let h = eqb-true (4294967296 - suc a) (4294967296 - suc b) e in eq-eqb a b (omega arith)) (λ e. let h = eqb-true a b e in eq-eqb (4294967296 - suc a) (4294967296 - suc b) (omega arith))
