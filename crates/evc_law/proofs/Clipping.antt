@@ -20,7 +20,7 @@ use Rattle.evc_plane.specs.Planes.{sideOf, reference}
 use Rattle.evc_filter.specs.Filter.{taps, phases, lead, reach, firstStage, secondStage}
 use Rattle.evc_filter.proofs.Tables.{shape}
 use Rattle.evc_filter.proofs.Sums.{balance}
-use Rattle.evc_interp.specs.Prediction.{phaseOf, placeOf}
+use Rattle.evc_interp.specs.Prediction.{phaseOf, pelOf}
 use Rattle.evc_interp.proofs.Windows.{some-phase, phase-small}
 use Rattle.evc_clip.specs.Clip.{margin, clipComponent, clipMv, clippedPlace}
 use Rattle.evc_clip.proofs.Laws.{lastPlace, clipped-place}
@@ -31,49 +31,49 @@ use Rattle.evc_law.proofs.Paths.{aligned-phase}
 
 -- ---- the taps of a place over equal numbers: their sum is 64
 
-tapped-flat : (k : PlaneType) (f : ℤ → ℤ) (p : ℤ) (c : ℕ) (e : ℤ) → ((t : ℕ) → t ≤ reach k → f (placeOf k p +ℤ pos c +ℤ − lead k +ℤ pos t) ≡ e) → tapped k f p c ≡ pos 64 *ℤ e
+tapped-flat : (k : PlaneType) (f : ℤ → ℤ) (p : ℤ) (c : ℕ) (e : ℤ) → ((t : ℕ) → t ≤ reach k → f (pelOf k p +ℤ pos c +ℤ − lead k +ℤ pos t) ≡ e) → tapped k f p c ≡ pos 64 *ℤ e
 tapped-flat k f p c e h =
     let q = phaseOf k p in
     let s = shape k q (phase-small k p q refl) in
-    let b = balance (taps k q) (λ (t : ℕ). f (placeOf k p +ℤ pos c +ℤ − lead k +ℤ pos t)) (λ _. e ⁺) (e ⁻) (λ t l. is-eq (h t (omega (arith, s .count))) (of e)) in
+    let b = balance (taps k q) (λ (t : ℕ). f (pelOf k p +ℤ pos c +ℤ − lead k +ℤ pos t)) (λ _. e ⁺) (e ⁻) (λ t l. is-eq (h t (omega (arith, s .count))) (of e)) in
     tapped-is k f p c ∙ same b (is-k* 64 (of e)) (omega (arith, s .total (e ⁺), s .total (e ⁻)))
 
 -- ---- where the taps of a place lie that is past a limit
 
 module _ (k : PlaneType) (p : ℤ) where
-  parts-of : p ⁺ + phases k * placeOf k p ⁻ ≡ phases k * placeOf k p ⁺ + phaseOf k p + p ⁻
-  unfolding phaseOf placeOf
+  parts-of : p ⁺ + phases k * pelOf k p ⁻ ≡ phases k * pelOf k p ⁺ + phaseOf k p + p ⁻
+  unfolding phaseOf pelOf
   parts-of =
       let m = phases k in
-      let q = placeOf k p in
+      let q = pelOf k p in
       omega (arith, fact (! p) (! (pos m) ⊗ ! q ⊕ ! (pos (phaseOf k p))) (split m p (some-phase k)))
 
-  tap-at : (c t : ℕ) → (placeOf k p +ℤ pos c +ℤ − lead k +ℤ pos t) ⁺ ≡ placeOf k p ⁺ + c + t - (placeOf k p ⁻ + lead k)
-  tap-at c t = let q = placeOf k p in omega (arith, part⁺ (! q ⊕ ! (pos c) ⊕ neg (! (pos (lead k))) ⊕ ! (pos t)))
+  tap-at : (c t : ℕ) → (pelOf k p +ℤ pos c +ℤ − lead k +ℤ pos t) ⁺ ≡ pelOf k p ⁺ + c + t - (pelOf k p ⁻ + lead k)
+  tap-at c t = let q = pelOf k p in omega (arith, part⁺ (! q ⊕ ! (pos c) ⊕ neg (! (pos (lead k))) ⊕ ! (pos t)))
 
-  whole-at : (c : ℕ) → (placeOf k p +ℤ pos c) ⁺ ≡ placeOf k p ⁺ + c - placeOf k p ⁻
-  whole-at c = let q = placeOf k p in omega (arith, part⁺ (! q ⊕ ! (pos c)))
+  whole-at : (c : ℕ) → (pelOf k p +ℤ pos c) ⁺ ≡ pelOf k p ⁺ + c - pelOf k p ⁻
+  whole-at c = let q = pelOf k p in omega (arith, part⁺ (! q ⊕ ! (pos c)))
 
 -- Below the low limit, 64 samples before the picture's first (in chroma 32): at phase 0 the block's last sample lies before the picture. At another phase the
 -- place is a whole sample further out; the last tap, 3 past it (chroma 2), lies on the edge sample or before where the block has at most 32 samples, or where the
 -- place is a whole luma sample past the limit
-low-whole : (k : PlaneType) (w : ℕ) (p : ℤ) (c : ℕ) → w ≤ 64 → c < sideOf k w → phaseOf k p ≡ 0 → p ⁺ + 256 ≤ p ⁻ → (placeOf k p +ℤ pos c) ⁺ ≡ 0
+low-whole : (k : PlaneType) (w : ℕ) (p : ℤ) (c : ℕ) → w ≤ 64 → c < sideOf k w → phaseOf k p ≡ 0 → p ⁺ + 256 ≤ p ⁻ → (pelOf k p +ℤ pos c) ⁺ ≡ 0
 low-whole Y w p c lw lc e h = omega (arith, parts-of Y p, whole-at Y p c)
 low-whole UV w p c lw lc e h = omega (arith, parts-of UV p, whole-at UV p c)
 
 low-tap : (k : PlaneType) (w : ℕ) (p : ℤ) (c r t : ℕ) → w ≤ 64 → c < sideOf k w → phaseOf k p ≡ suc r → t ≤ reach k → p ⁺ + 256 ≤ p ⁻ → (sideOf k w ≤ 32) ⊎ (p ⁺ + 260 ≤ p ⁻)
-    → (placeOf k p +ℤ pos c +ℤ − lead k +ℤ pos t) ⁺ ≡ 0
+    → (pelOf k p +ℤ pos c +ℤ − lead k +ℤ pos t) ⁺ ≡ 0
 low-tap Y w p c r t lw lc e lt h (inl n) = omega (arith, parts-of Y p, tap-at Y p c t)
 low-tap Y w p c r t lw lc e lt h (inr n) = omega (arith, parts-of Y p, tap-at Y p c t)
 low-tap UV w p c r t lw lc e lt h n = omega (arith, parts-of UV p, tap-at UV p c t)
 
 -- above the high limit, the block's last sample 64 samples past the picture's last: likewise with the first tap, 2 before the place (chroma 1)
-high-whole : (k : PlaneType) (W w : ℕ) (p : ℤ) (c : ℕ) → W % 4 ≡ 0 → w % 4 ≡ 0 → w ≤ W → w ≤ 64 → phaseOf k p ≡ 0 → 4 * W + 256 + p ⁻ ≤ p ⁺ + 4 * w → sideOf k W - 1 ≤ (placeOf k p +ℤ pos c) ⁺
+high-whole : (k : PlaneType) (W w : ℕ) (p : ℤ) (c : ℕ) → W % 4 ≡ 0 → w % 4 ≡ 0 → w ≤ W → w ≤ 64 → phaseOf k p ≡ 0 → 4 * W + 256 + p ⁻ ≤ p ⁺ + 4 * w → sideOf k W - 1 ≤ (pelOf k p +ℤ pos c) ⁺
 high-whole Y W w p c fW fw i l e h = omega (arith, parts-of Y p, whole-at Y p c)
 high-whole UV W w p c fW fw i l e h = omega (arith, parts-of UV p, whole-at UV p c)
 
 high-tap : (k : PlaneType) (W w : ℕ) (p : ℤ) (c t : ℕ) → W % 4 ≡ 0 → w % 4 ≡ 0 → w ≤ W → w ≤ 64 → 4 * W + 256 + p ⁻ ≤ p ⁺ + 4 * w → (sideOf k w ≤ 32) ⊎ (4 * W + 260 + p ⁻ ≤ p ⁺ + 4 * w)
-    → sideOf k W - 1 ≤ (placeOf k p +ℤ pos c +ℤ − lead k +ℤ pos t) ⁺
+    → sideOf k W - 1 ≤ (pelOf k p +ℤ pos c +ℤ − lead k +ℤ pos t) ⁺
 high-tap Y W w p c t fW fw i l h (inl n) = omega (arith, parts-of Y p, tap-at Y p c t, phase-small Y p (phaseOf Y p) refl)
 high-tap Y W w p c t fW fw i l h (inr n) = omega (arith, parts-of Y p, tap-at Y p c t, phase-small Y p (phaseOf Y p) refl)
 high-tap UV W w p c t fW fw i l h n = omega (arith, parts-of UV p, tap-at UV p c t, phase-small UV p (phaseOf UV p) refl)
@@ -162,14 +162,14 @@ module _ (k : PlaneType) (W x w : ℕ) (ok : Allowed W x w) (f : ℤ → ℤ) (p
 
 module _ (k : PlaneType) (b : EvcBlock) (across : Allowed (b .«pic_w») (b .x) (b .w)) (down : Allowed (b .«pic_h») (b .y) (b .h)) (pic : ℕ → ℕ → ℕ) (mv : EvcMv) (hidden-x : Hidden k (b .«pic_w») (b .x) (b .w) (mv .x)) (hidden-y : Hidden k (b .«pic_h») (b .y) (b .h) (mv .y)) where
   pub general-clipped : (x y : ℕ) → x < sideOf k (b .w) → y < sideOf k (b .h) → let s = reference pic (sideOf k (b .«pic_w»)) (sideOf k (b .«pic_h»)) in
-      general k s (clippedPlace b mv .x) (clippedPlace b mv .y) x y ≡ general k s (exactPlace b mv .x) (exactPlace b mv .y) x y
+      general k s (clippedPlace b mv .x .0) (clippedPlace b mv .y .0) x y ≡ general k s (exactPlace b mv .x .0) (exactPlace b mv .y .0) x y
   unfolding general general₁ clippedPlace clipMv reference
   general-clipped x y lx ly =
       let s = reference pic (sideOf k (b .«pic_w»)) (sideOf k (b .«pic_h»)) in
-      let px = exactPlace b mv .x in
+      let px = exactPlace b mv .x .0 in
       ap secondStage
       (tapped-same k _ (general₁ k s px x)
       (λ j. ap firstStage (tapped-clipped k (b .«pic_w») (b .x) (b .w) across (λ (i : ℤ). pos (s i j)) (λ i i′ e. ap (λ (n : ℕ). pos (pic n (min (j ⁺) (sideOf k (b .«pic_h») - 1)))) e) x lx (mv .x) hidden-x))
-      (clippedPlace b mv .y) y
+      (clippedPlace b mv .y .0) y
       ∙ tapped-clipped k (b .«pic_h») (b .y) (b .h) down (general₁ k s px x)
       (λ j j′ e. ap firstStage (tapped-same k _ _ (λ i. ap (λ (n : ℕ). pos (pic (min (i ⁺) (sideOf k (b .«pic_w») - 1)) n)) e) px x)) y ly (mv .y) hidden-y)

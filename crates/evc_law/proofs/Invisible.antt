@@ -18,7 +18,7 @@ use Rattle.evc_plane.specs.declared.PlaneType.{PlaneType}
 use Rattle.evc_plane.specs.declared.PlaneType.the-variants.{Y, UV}
 use Rattle.evc_plane.specs.Planes.{sideOf, sampleAt, reference}
 use Rattle.evc_filter.specs.Filter.{taps, singleStage}
-use Rattle.evc_interp.specs.Prediction.{phaseOf, placeOf, isFiltered}
+use Rattle.evc_interp.specs.Prediction.{phaseOf, pelOf, isFiltered}
 use Rattle.evc_clip.specs.Clip.{clipComponent, clipMv, clippedPlace}
 use Rattle.evc_mc.specs.declared.EvcList.{EvcList}
 use Rattle.evc_mc.specs.Block.{Component, luma, typeOf, widthOf, heightOf, predLen}
@@ -103,11 +103,11 @@ module _ (pic : ℕ → ℕ → ℕ) (pw ph : ℕ) (wide : 2 ≤ pw) (high : 1 �
       ap pos (ap (λ (m : ℕ). pic m n) z ∙ columns n (omega arith) .1)
 
   clipped-line : singleStage (tapped Y (rowOf pic pw ph j) (− 256) 63) ≡ 0
-  unfolding phaseOf placeOf
+  unfolding phaseOf pelOf
   clipped-line = ap singleStage (tapped-whole Y (rowOf pic pw ph j) (− 256) 63 refl) ∙ ap (λ (z : ℤ). singleStage (pos 64 *ℤ z)) (column-0 _ refl)
 
   exact-line : singleStage (tapped Y (rowOf pic pw ph j) (− 257) 63) ≡ 16
-  unfolding tapped phaseOf placeOf
+  unfolding tapped phaseOf pelOf
   exact-line = ap singleStage (tapSum-same (taps Y 3) (λ (t : ℕ). rowOf pic pw ph j (− 65 +ℤ pos 63 +ℤ − 2 +ℤ pos t)) (λ (t : ℕ). cond (eqb t 5) (pos 1023) (pos 0)) tap)
     where
       tap : (t : ℕ) → t < 6 → rowOf pic pw ph j (− 65 +ℤ pos 63 +ℤ − 2 +ℤ pos t) ≡ cond (eqb t 5) (pos 1023) (pos 0)
@@ -166,7 +166,7 @@ counterexample k given done ex y ly =
     )
 
 pub computed : Computed
-unfolding general general₁ tapped phaseOf placeOf clippedPlace clipMv clipComponent reference
+unfolding general general₁ tapped phaseOf pelOf clippedPlace clipMv clipComponent reference
 computed =
     (((refl, refl), (refl, refl), (refl, refl), (refl, refl)), ((refl, refl), (refl, refl), (refl, refl), (refl, refl)), ((refl, refl), (refl, refl), (refl, refl), (refl, refl)))
 

@@ -16,8 +16,8 @@ use Rattle.evc_plane.specs.declared.PlaneType.the-variants.{Y, UV}
 use Rattle.evc_plane.specs.Planes.{sideOf, sampleAt, referenceOf}
 use Rattle.evc_plane.proofs.Reference.{reference-left-right, reference-top-bottom}
 use Rattle.evc_filter.specs.Filter.{phases}
-use Rattle.evc_clip.specs.Clip.{clipComponent, clipMv, clippedPlace}
-use Rattle.evc_clip.proofs.Laws.{placeOf, clipped-mirror}
+use Rattle.evc_clip.specs.Clip.{clipComponent, clipMv, placeOf, clippedPlace}
+use Rattle.evc_clip.proofs.Laws.{clipped-mirror}
 use Rattle.evc_mc.specs.declared.EvcList.{EvcList}
 use Rattle.evc_mc.specs.Block.{Component, typeOf, widthOf, heightOf}
 use Rattle.evc_law.specs.General.{general}
@@ -73,10 +73,10 @@ module _ (b : EvcBlock) (ax : Allowed (b .«pic_w») (b .x) (b .w)) (ay : Allowe
       let W = b .«pic_w» in
       let H = b .«pic_h» in
       let place = clippedPlace b (l .mv) in
-      ap (λ (mv : EvcMv). let place = clippedPlace (blockLeftRight b) mv in general k (referenceOf k W H (q c)) (place .x) (place .y) x y) e
+      ap (λ (mv : EvcMv). let place = clippedPlace (blockLeftRight b) mv in general k (referenceOf k W H (q c)) (place .x .0) (place .y .0) x y) e
       ∙ general-left-right k (referenceOf k W H (p c)) (referenceOf k W H (q c)) (pos (sideOf k W)) (free k W (b .w))
       (reference-left-right (sampleAt k W (p c)) (sideOf k W) (sideOf k H) (sampleAt k W (q c)) (some-side k W (b .x) (b .w) ax) (some-side k H (b .y) (b .h) ay) (h c))
-      (place .x) _ (place .y) x′ x y (places-meet k W (b .x) (b .w) ax (l .mv .x)) (samples-meet k W (b .x) (b .w) ax x x′ s)
+      (place .x .0) _ (place .y .0) x′ x y (places-meet k W (b .x) (b .w) ax (l .mv .x)) (samples-meet k W (b .x) (b .w) ax x x′ s)
 
   pub list-top-bottom : (l m : EvcList) (p q : Picture) → m .mv ≡ mvTopBottom (l .mv) → PictureTopBottom b p q → (c : Component) (x y y′ : ℕ) → y + y′ + 1 ≡ heightOf b c
       → generalList (blockTopBottom b) m q c x y ≡ generalList b l p c x y′
@@ -86,10 +86,10 @@ module _ (b : EvcBlock) (ax : Allowed (b .«pic_w») (b .x) (b .w)) (ay : Allowe
       let W = b .«pic_w» in
       let H = b .«pic_h» in
       let place = clippedPlace b (l .mv) in
-      ap (λ (mv : EvcMv). let place = clippedPlace (blockTopBottom b) mv in general k (referenceOf k W H (q c)) (place .x) (place .y) x y) e
+      ap (λ (mv : EvcMv). let place = clippedPlace (blockTopBottom b) mv in general k (referenceOf k W H (q c)) (place .x .0) (place .y .0) x y) e
       ∙ general-top-bottom k (referenceOf k W H (p c)) (referenceOf k W H (q c)) (pos (sideOf k H)) (free k H (b .h))
       (reference-top-bottom (sampleAt k W (p c)) (sideOf k W) (sideOf k H) (sampleAt k W (q c)) (some-side k W (b .x) (b .w) ax) (some-side k H (b .y) (b .h) ay) (h c))
-      (place .x) (place .y) _ x y′ y (places-meet k H (b .y) (b .h) ay (l .mv .y)) (samples-meet k H (b .y) (b .h) ay y y′ s)
+      (place .x .0) (place .y .0) _ x y′ y (places-meet k H (b .y) (b .h) ay (l .mv .y)) (samples-meet k H (b .y) (b .h) ay y y′ s)
 
 -- ---- equal pictures have equal mirrors
 

@@ -18,6 +18,7 @@ use Rattle.evc_int.proofs.Expressions.{ !, _⊕_, _⊖_, _⊗_, neg, solve, fac
 use Rattle.evc_def.specs.Blocks.{Allowed}
 use Rattle.evc_def.specs.declared.EvcBlock.{EvcBlock}
 use Rattle.evc_def.specs.declared.EvcMv.{EvcMv}
+use Rattle.evc_def.specs.declared.QpelPlace.{QpelPlace}
 use Rattle.evc_clip.specs.Clip.{margin, clipComponent, clipMv, clippedPlace}
 use Rattle.evc_clip.proofs.Laws.{lastPlace, clipped-place}
 use Rattle.evc_pad.specs.Padding.{padded, padCode, padAfter}
@@ -27,7 +28,7 @@ use Rattle.evc_plane.specs.declared.PlaneType.the-variants.{Y, UV}
 use Rattle.evc_pad.proofs.Laws.{window-reads-reference, reference-small, accepts, after}
 use Rattle.evc_filter.specs.Filter.{taps, lead, reach, tapSum, along, singleStage, firstStage, secondStage, interpolated, rowStage, interpolatedTwice}
 use Rattle.evc_filter.proofs.Tables.{shape}
-use Rattle.evc_interp.specs.Prediction.{phaseOf, placeOf, isFiltered, startOf, windowOf, sampleBy, predicted}
+use Rattle.evc_interp.specs.Prediction.{phaseOf, pelOf, isFiltered, startOf, windowOf, sampleBy, predicted}
 use Rattle.evc_interp.proofs.Windows.{phase-small}
 use Rattle.evc_law.specs.General.{tapped, general₁, general}
 use Rattle.evc_law.proofs.Phases.{tapSum-same, tapped-is, across-alone, down-alone, sample-alone}
@@ -78,28 +79,28 @@ within-pad Y n x a b = omega arith
 within-pad UV n x a b = omega arith
 
 -- a filtered direction starts `lead` before the place; the other at the place
-start-filtered : (k : PlaneType) (z : ℤ) (c t : ℕ) → placeOf k z +ℤ pos c +ℤ − lead k +ℤ pos t ≡ startOf k true z +ℤ pos (c + t)
+start-filtered : (k : PlaneType) (z : ℤ) (c t : ℕ) → pelOf k z +ℤ pos c +ℤ − lead k +ℤ pos t ≡ startOf k true z +ℤ pos (c + t)
 unfolding startOf
 start-filtered k z c t =
-    let p = placeOf k z in
+    let p = pelOf k z in
     solve (! p ⊕ ! (pos c) ⊕ neg (! (pos (lead k))) ⊕ ! (pos t)) (! p ⊕ neg (! (pos (lead k))) ⊕ ! (pos (c + t))) (omega arith)
 
-start-whole : (k : PlaneType) (z : ℤ) (c : ℕ) → placeOf k z +ℤ pos c ≡ startOf k false z +ℤ pos c
+start-whole : (k : PlaneType) (z : ℤ) (c : ℕ) → pelOf k z +ℤ pos c ≡ startOf k false z +ℤ pos c
 unfolding startOf
-start-whole k z c = let p = placeOf k z in solve (! p ⊕ ! (pos c)) (! p ⊕ neg (! (pos 0)) ⊕ ! (pos c)) (omega arith)
+start-whole k z c = let p = pelOf k z in solve (! p ⊕ ! (pos c)) (! p ⊕ neg (! (pos 0)) ⊕ ! (pos c)) (omega arith)
 
 -- a phase's taps are as many as the filter reaches
 tap-within : (k : PlaneType) (z : ℤ) (t : ℕ) → t < length (taps k (phaseOf k z)) → t ≤ reach k
 tap-within k z t l = omega (arith, shape k (phaseOf k z) (phase-small k z (phaseOf k z) refl) .count)
 
-module _ (k : PlaneType) (W H : ℕ) (q : List ℕ) (done : padCode k W H q ≡ 0) (gmv : EvcMv) where
-  pub window-reads : (a b : Bool) (i j : ℤ) (c r n : ℕ) → n ≡ windowOf k W H a b gmv + r * strideOf k W + c → i ≡ startOf k a (gmv .x) +ℤ pos c → j ≡ startOf k b (gmv .y) +ℤ pos r → c < padOf k → r < padOf k
+module _ (k : PlaneType) (W H : ℕ) (q : List ℕ) (done : padCode k W H q ≡ 0) (gmv : QpelPlace) where
+  pub window-reads : (a b : Bool) (i j : ℤ) (c r n : ℕ) → n ≡ windowOf k W H a b gmv + r * strideOf k W + c → i ≡ startOf k a (gmv .x .0) +ℤ pos c → j ≡ startOf k b (gmv .y .0) +ℤ pos r → c < padOf k → r < padOf k
       → getD (padded k W H q) n 0 ≡ referenceOf k W H q i j
   unfolding windowOf
   window-reads a b i j c r n en ei ej lc lr =
       let o = accepts k W H q done in
       ap (λ (n : ℕ). getD (padded k W H q) n 0) en
-      ∙ window-reads-reference k W H (o .0) q (o .1) (startOf k a (gmv .x)) (startOf k b (gmv .y)) c r lc lr
+      ∙ window-reads-reference k W H (o .0) q (o .1) (startOf k a (gmv .x .0)) (startOf k b (gmv .y .0)) c r lc lr
       ∙ ap₂ (referenceOf k W H q) (sym ei) (sym ej)
 
   module _ (x y : ℕ) (lx : (t : ℕ) → t ≤ reach k → x + t < padOf k) (ly : (t : ℕ) → t ≤ reach k → y + t < padOf k) where
@@ -110,49 +111,49 @@ module _ (k : PlaneType) (W H : ℕ) (q : List ℕ) (done : padCode k W H q ≡ 
     row-in = omega (arith, ly 0 (omega arith))
 
     -- the taps across, over row r of the window, and the taps down, over column x
-    row-reads : (b : Bool) (j : ℤ) (r n : ℕ) → n ≡ windowOf k W H true b gmv + r * strideOf k W + x → j ≡ startOf k b (gmv .y) +ℤ pos r → r < padOf k
-        → tapSum (taps k (phaseOf k (gmv .x))) (along (padded k W H q) n 1) ≡ tapped k (λ (i : ℤ). pos (referenceOf k W H q i j)) (gmv .x) x
+    row-reads : (b : Bool) (j : ℤ) (r n : ℕ) → n ≡ windowOf k W H true b gmv + r * strideOf k W + x → j ≡ startOf k b (gmv .y .0) +ℤ pos r → r < padOf k
+        → tapSum (taps k (phaseOf k (gmv .x .0))) (along (padded k W H q) n 1) ≡ tapped k (λ (i : ℤ). pos (referenceOf k W H q i j)) (gmv .x .0) x
     row-reads b j r n en ej lr =
-        tapSum-same (taps k (phaseOf k (gmv .x))) _ _
-        (λ t lt. ap pos (window-reads true b _ j (x + t) r (n + t * 1) (omega arith) (start-filtered k (gmv .x) x t) ej (lx t (tap-within k (gmv .x) t lt)) lr))
-        ∙ sym (tapped-is k (λ (i : ℤ). pos (referenceOf k W H q i j)) (gmv .x) x)
+        tapSum-same (taps k (phaseOf k (gmv .x .0))) _ _
+        (λ t lt. ap pos (window-reads true b _ j (x + t) r (n + t * 1) (omega arith) (start-filtered k (gmv .x .0) x t) ej (lx t (tap-within k (gmv .x .0) t lt)) lr))
+        ∙ sym (tapped-is k (λ (i : ℤ). pos (referenceOf k W H q i j)) (gmv .x .0) x)
 
-    column-reads : (i : ℤ) → i ≡ startOf k false (gmv .x) +ℤ pos x
-        → tapSum (taps k (phaseOf k (gmv .y))) (along (padded k W H q) (windowOf k W H false true gmv + y * strideOf k W + x) (strideOf k W)) ≡ tapped k (λ (j : ℤ). pos (referenceOf k W H q i j)) (gmv .y) y
+    column-reads : (i : ℤ) → i ≡ startOf k false (gmv .x .0) +ℤ pos x
+        → tapSum (taps k (phaseOf k (gmv .y .0))) (along (padded k W H q) (windowOf k W H false true gmv + y * strideOf k W + x) (strideOf k W)) ≡ tapped k (λ (j : ℤ). pos (referenceOf k W H q i j)) (gmv .y .0) y
     column-reads i ei =
-        tapSum-same (taps k (phaseOf k (gmv .y))) _ _
-        (λ t lt. ap pos (window-reads false true i _ x (y + t) _ (omega (arith, add-mul y t (strideOf k W))) ei (start-filtered k (gmv .y) y t) column-in (ly t (tap-within k (gmv .y) t lt))))
-        ∙ sym (tapped-is k (λ (j : ℤ). pos (referenceOf k W H q i j)) (gmv .y) y)
+        tapSum-same (taps k (phaseOf k (gmv .y .0))) _ _
+        (λ t lt. ap pos (window-reads false true i _ x (y + t) _ (omega (arith, add-mul y t (strideOf k W))) ei (start-filtered k (gmv .y .0) y t) column-in (ly t (tap-within k (gmv .y .0) t lt))))
+        ∙ sym (tapped-is k (λ (j : ℤ). pos (referenceOf k W H q i j)) (gmv .y .0) y)
 
     -- both: the taps down over the rows' results
-    rows-read : interpolatedTwice k (phaseOf k (gmv .x)) (phaseOf k (gmv .y)) (padded k W H q) (windowOf k W H true true gmv + y * strideOf k W + x) (strideOf k W) ≡ general k (referenceOf k W H q) (gmv .x) (gmv .y) x y
+    rows-read : interpolatedTwice k (phaseOf k (gmv .x .0)) (phaseOf k (gmv .y .0)) (padded k W H q) (windowOf k W H true true gmv + y * strideOf k W + x) (strideOf k W) ≡ general k (referenceOf k W H q) (gmv .x .0) (gmv .y .0) x y
     unfolding interpolatedTwice rowStage general general₁
     rows-read =
         ap secondStage
-        (tapSum-same (taps k (phaseOf k (gmv .y))) _ _
-        (λ t lt. ap firstStage (row-reads true _ (y + t) _ (omega (arith, add-mul y t (strideOf k W))) (start-filtered k (gmv .y) y t) (ly t (tap-within k (gmv .y) t lt))))
-        ∙ sym (tapped-is k (general₁ k (referenceOf k W H q) (gmv .x) x) (gmv .y) y))
+        (tapSum-same (taps k (phaseOf k (gmv .y .0))) _ _
+        (λ t lt. ap firstStage (row-reads true _ (y + t) _ (omega (arith, add-mul y t (strideOf k W))) (start-filtered k (gmv .y .0) y t) (ly t (tap-within k (gmv .y .0) t lt))))
+        ∙ sym (tapped-is k (general₁ k (referenceOf k W H q) (gmv .x .0) x) (gmv .y .0) y))
 
     -- a path that leaves a direction unfiltered only at phase 0
-    by-path : (a b : Bool) → (a ≡ false → phaseOf k (gmv .x) ≡ 0) → (b ≡ false → phaseOf k (gmv .y) ≡ 0)
-        → sampleBy k a b (phaseOf k (gmv .x)) (phaseOf k (gmv .y)) (padded k W H q) (windowOf k W H a b gmv + y * strideOf k W + x) (strideOf k W) ≡ general k (referenceOf k W H q) (gmv .x) (gmv .y) x y
+    by-path : (a b : Bool) → (a ≡ false → phaseOf k (gmv .x .0) ≡ 0) → (b ≡ false → phaseOf k (gmv .y .0) ≡ 0)
+        → sampleBy k a b (phaseOf k (gmv .x .0)) (phaseOf k (gmv .y .0)) (padded k W H q) (windowOf k W H a b gmv + y * strideOf k W + x) (strideOf k W) ≡ general k (referenceOf k W H q) (gmv .x .0) (gmv .y .0) x y
     unfolding sampleBy interpolated
     by-path false false px py =
-        window-reads false false _ _ x y _ refl (start-whole k (gmv .x) x) (start-whole k (gmv .y) y) column-in row-in
-        ∙ sym (sample-alone k (referenceOf k W H q) (gmv .x) (gmv .y) x y (px refl) (py refl) (reference-small k W H q done _ _))
+        window-reads false false _ _ x y _ refl (start-whole k (gmv .x .0) x) (start-whole k (gmv .y .0) y) column-in row-in
+        ∙ sym (sample-alone k (referenceOf k W H q) (gmv .x .0) (gmv .y .0) x y (px refl) (py refl) (reference-small k W H q done _ _))
     by-path true false px py =
-        ap singleStage (row-reads false (placeOf k (gmv .y) +ℤ pos y) y _ refl (start-whole k (gmv .y) y) row-in)
-        ∙ sym (across-alone k (referenceOf k W H q) (gmv .x) (gmv .y) x y (py refl))
+        ap singleStage (row-reads false (pelOf k (gmv .y .0) +ℤ pos y) y _ refl (start-whole k (gmv .y .0) y) row-in)
+        ∙ sym (across-alone k (referenceOf k W H q) (gmv .x .0) (gmv .y .0) x y (py refl))
     by-path false true px py =
-        ap singleStage (column-reads (placeOf k (gmv .x) +ℤ pos x) (start-whole k (gmv .x) x))
-        ∙ sym (down-alone k (referenceOf k W H q) (gmv .x) (gmv .y) x y (px refl))
+        ap singleStage (column-reads (pelOf k (gmv .x .0) +ℤ pos x) (start-whole k (gmv .x .0) x))
+        ∙ sym (down-alone k (referenceOf k W H q) (gmv .x .0) (gmv .y .0) x y (px refl))
     by-path true true px py = rows-read
 
 -- ---- the four paths
 
 module _ (k : PlaneType) (b : EvcBlock) (across : Allowed (b .«pic_w») (b .x) (b .w)) (down : Allowed (b .«pic_h») (b .y) (b .h)) (mv : EvcMv) where
   pub paths : (s q : List ℕ) → padCode k (b .«pic_w») (b .«pic_h») q ≡ 0 → s ≡ padAfter k (b .«pic_w») (b .«pic_h») q → (x y : ℕ) → x < sideOf k (b .w) → y < sideOf k (b .h)
-      → predicted k (b .«pic_w») (b .«pic_h») mv (clippedPlace b mv) s y x ≡ general k (referenceOf k (b .«pic_w») (b .«pic_h») q) (clippedPlace b mv .x) (clippedPlace b mv .y) x y
+      → predicted k (b .«pic_w») (b .«pic_h») mv (clippedPlace b mv) s y x ≡ general k (referenceOf k (b .«pic_w») (b .«pic_h») q) (clippedPlace b mv .x .0) (clippedPlace b mv .y .0) x y
   unfolding predicted clippedPlace clipMv
   paths s q done made x y lx ly =
       let W = b .«pic_w» in

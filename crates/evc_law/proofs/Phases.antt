@@ -14,7 +14,7 @@ use Rattle.evc_int.proofs.Division.{solve-shr, fact-shr}
 use Rattle.evc_plane.specs.declared.PlaneType.{PlaneType}
 use Rattle.evc_plane.specs.declared.PlaneType.the-variants.{Y, UV}
 use Rattle.evc_filter.specs.Filter.{taps, lead, tapSum, clipSample, singleStage}
-use Rattle.evc_interp.specs.Prediction.{phaseOf, placeOf}
+use Rattle.evc_interp.specs.Prediction.{phaseOf, pelOf}
 use Rattle.evc_law.specs.General.{tapped, general₁, general}
 
 -- ---- the tap sum: over equal numbers, and over numbers times a
@@ -37,8 +37,8 @@ tapEx (t ∷ ts) f = ! t ⊗ ! (f 0) ⊕ tapEx ts (λ (n : ℕ). f (suc n))
 
 -- ---- the definition writes its numbers out; in the words of the call's own definitions
 
-pub tapped-is : (k : PlaneType) (f : ℤ → ℤ) (place : ℤ) (c : ℕ) → tapped k f place c ≡ tapSum (taps k (phaseOf k place)) (λ (t : ℕ). f (placeOf k place +ℤ pos c +ℤ − lead k +ℤ pos t))
-unfolding tapped phaseOf placeOf
+pub tapped-is : (k : PlaneType) (f : ℤ → ℤ) (place : ℤ) (c : ℕ) → tapped k f place c ≡ tapSum (taps k (phaseOf k place)) (λ (t : ℕ). f (pelOf k place +ℤ pos c +ℤ − lead k +ℤ pos t))
+unfolding tapped phaseOf pelOf
 tapped-is Y f place c = refl
 tapped-is UV f place c = refl
 
@@ -49,9 +49,9 @@ picks Y f = solve (tapEx (taps Y 0) f) (! (pos 64) ⊗ ! (f 2)) (omega arith)
 picks UV f = solve (tapEx (taps UV 0) f) (! (pos 64) ⊗ ! (f 1)) (omega arith)
 
 -- the taps of a place at phase 0: the sample there, times 64
-pub tapped-whole : (k : PlaneType) (f : ℤ → ℤ) (place : ℤ) (c : ℕ) → phaseOf k place ≡ 0 → tapped k f place c ≡ pos 64 *ℤ f (placeOf k place +ℤ pos c)
+pub tapped-whole : (k : PlaneType) (f : ℤ → ℤ) (place : ℤ) (c : ℕ) → phaseOf k place ≡ 0 → tapped k f place c ≡ pos 64 *ℤ f (pelOf k place +ℤ pos c)
 tapped-whole k f place c h =
-    let p = placeOf k place in
+    let p = pelOf k place in
     tapped-is k f place c
     ∙ ap (λ (q : ℕ). tapSum (taps k q) (λ (t : ℕ). f (p +ℤ pos c +ℤ − lead k +ℤ pos t))) h
     ∙ picks k (λ (t : ℕ). f (p +ℤ pos c +ℤ − lead k +ℤ pos t))
@@ -76,7 +76,7 @@ sixteenfold s =
 tapped-scale : (k : PlaneType) (a : ℤ) (f : ℤ → ℤ) (place : ℤ) (c : ℕ) → tapped k (λ (i : ℤ). a *ℤ f i) place c ≡ a *ℤ tapped k f place c
 tapped-scale k a f place c =
     tapped-is k (λ (i : ℤ). a *ℤ f i) place c
-    ∙ tapSum-scale a (taps k (phaseOf k place)) (λ (t : ℕ). f (placeOf k place +ℤ pos c +ℤ − lead k +ℤ pos t))
+    ∙ tapSum-scale a (taps k (phaseOf k place)) (λ (t : ℕ). f (pelOf k place +ℤ pos c +ℤ − lead k +ℤ pos t))
     ∙ ap (λ (z : ℤ). a *ℤ z) (sym (tapped-is k f place c))
 
 pub tapped-same : (k : PlaneType) (f g : ℤ → ℤ) → ((i : ℤ) → f i ≡ g i) → (place : ℤ) (c : ℕ) → tapped k f place c ≡ tapped k g place c
@@ -84,25 +84,25 @@ tapped-same k f g h place c = ap (λ (f : ℤ → ℤ). tapped k f place c) (fun
 
 module _ (k : PlaneType) (s : ℤ → ℤ → ℕ) (px py : ℤ) (c r : ℕ) where
   column : ℤ
-  column = placeOf k px +ℤ pos c
+  column = pelOf k px +ℤ pos c
 
   row : ℤ
-  row = placeOf k py +ℤ pos r
+  row = pelOf k py +ℤ pos r
 
-  pub down-alone : phaseOf k px ≡ 0 → general k s px py c r ≡ singleStage (tapped k (λ (j : ℤ). pos (s (placeOf k px +ℤ pos c) j)) py r)
+  pub down-alone : phaseOf k px ≡ 0 → general k s px py c r ≡ singleStage (tapped k (λ (j : ℤ). pos (s (pelOf k px +ℤ pos c) j)) py r)
   unfolding general general₁ column
   down-alone h =
       ap (λ (z : ℤ). clipSample (shrZ (z +ℤ pos 512) 1024))
       (tapped-same k _ _ (λ j. ap (λ (z : ℤ). shrZ z 4) (tapped-whole k (λ (i : ℤ). pos (s i j)) px c h) ∙ sixteen (pos (s column j))) py r ∙ tapped-scale k (pos 16) (λ (j : ℤ). pos (s column j)) py r)
       ∙ ap clipSample (sixteenfold (tapped k (λ (j : ℤ). pos (s column j)) py r))
 
-  pub across-alone : phaseOf k py ≡ 0 → general k s px py c r ≡ singleStage (tapped k (λ (i : ℤ). pos (s i (placeOf k py +ℤ pos r))) px c)
+  pub across-alone : phaseOf k py ≡ 0 → general k s px py c r ≡ singleStage (tapped k (λ (i : ℤ). pos (s i (pelOf k py +ℤ pos r))) px c)
   unfolding general general₁ row
   across-alone h =
       ap (λ (z : ℤ). clipSample (shrZ (z +ℤ pos 512) 1024)) (tapped-whole k (general₁ k s px c) py r h)
       ∙ ap clipSample (twice-down (tapped k (λ (i : ℤ). pos (s i row)) px c))
 
-  pub sample-alone : phaseOf k px ≡ 0 → phaseOf k py ≡ 0 → s (placeOf k px +ℤ pos c) (placeOf k py +ℤ pos r) ≤ 1023 → general k s px py c r ≡ s (placeOf k px +ℤ pos c) (placeOf k py +ℤ pos r)
+  pub sample-alone : phaseOf k px ≡ 0 → phaseOf k py ≡ 0 → s (pelOf k px +ℤ pos c) (pelOf k py +ℤ pos r) ≤ 1023 → general k s px py c r ≡ s (pelOf k px +ℤ pos c) (pelOf k py +ℤ pos r)
   unfolding column row
   sample-alone h g b =
       let v = s column row in

@@ -17,7 +17,7 @@ use Rattle.evc_plane.specs.declared.PlaneType.{PlaneType}
 use Rattle.evc_plane.specs.declared.PlaneType.the-variants.{Y, UV}
 use Rattle.evc_plane.specs.Planes.{sideOf}
 use Rattle.evc_filter.specs.Filter.{taps, phases, lead, tapSum, firstStage, secondStage}
-use Rattle.evc_interp.specs.Prediction.{phaseOf, placeOf}
+use Rattle.evc_interp.specs.Prediction.{phaseOf, pelOf}
 use Rattle.evc_interp.proofs.Windows.{some-phase}
 use Rattle.evc_mc.specs.declared.EvcList.{EvcList}
 use Rattle.evc_mc.specs.Block.{Component, typeOf, widthOf, heightOf}
@@ -57,11 +57,11 @@ quarter-accepted b right lower e hw hh =
 -- ---- a place moved by whole samples
 
 module _ (k : PlaneType) where
-  shift : (p p′ : ℤ) (d : ℕ) → p′ ≡ p +ℤ pos (phases k * d) → (placeOf k p′ ≡ placeOf k p +ℤ pos d) × (phaseOf k p′ ≡ phaseOf k p)
-  unfolding phaseOf placeOf
+  shift : (p p′ : ℤ) (d : ℕ) → p′ ≡ p +ℤ pos (phases k * d) → (pelOf k p′ ≡ pelOf k p +ℤ pos d) × (phaseOf k p′ ≡ phaseOf k p)
+  unfolding phaseOf pelOf
   shift p p′ d e =
       let m = phases k in
-      let q = placeOf k p in
+      let q = pelOf k p in
       let r = phaseOf k p in
       let a = fact (! p) (! (pos m) ⊗ ! q ⊕ ! (pos r)) (split m p (some-phase k)) in
       let g = fact (! p′) (! p ⊕ ! (pos (m * d))) e in
@@ -69,7 +69,7 @@ module _ (k : PlaneType) where
 
   tapped-shift : (f : ℤ → ℤ) (p p′ : ℤ) (d c : ℕ) → p′ ≡ p +ℤ pos (phases k * d) → tapped k f p′ c ≡ tapped k f p (d + c)
   tapped-shift f p p′ d c e =
-      let q = placeOf k p in
+      let q = pelOf k p in
       let r = phaseOf k p in
       let o = shift p p′ d e in
       tapped-is k f p′ c

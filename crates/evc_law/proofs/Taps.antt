@@ -13,7 +13,7 @@ use Rattle.evc_plane.specs.declared.PlaneType.{PlaneType}
 use Rattle.evc_plane.specs.declared.PlaneType.the-variants.{Y, UV}
 use Rattle.evc_filter.specs.Filter.{taps, phases, lead, reach, tapSum, firstStage, secondStage}
 use Rattle.evc_filter.proofs.Tables.{symmetric, shape}
-use Rattle.evc_interp.specs.Prediction.{phaseOf, placeOf}
+use Rattle.evc_interp.specs.Prediction.{phaseOf, pelOf}
 use Rattle.evc_interp.proofs.Windows.{some-phase}
 use Rattle.evc_law.specs.General.{tapped, general₁, general}
 use Rattle.evc_law.proofs.Phases.{tapped-is, tapped-whole, tapped-same}
@@ -55,14 +55,14 @@ LineMirrored N f g = (i i′ : ℤ) → i +ℤ i′ +ℤ pos 1 ≡ N → g i ≡
 -- the places add up to D whole samples, by which the block is smaller than the plane; the block's samples c and c′ are each other's mirror
 module _ (k : PlaneType) (f g : ℤ → ℤ) (N D : ℤ) (mirror : LineMirrored N f g) (p p′ : ℤ) (c c′ : ℕ) (places : p +ℤ p′ ≡ pos (phases k) *ℤ D) (samples : D +ℤ pos (c + c′ + 1) ≡ N) where
   pub tapped-mirror : tapped k g p′ c′ ≡ tapped k f p c
-  unfolding phaseOf placeOf
+  unfolding phaseOf pelOf
   tapped-mirror = go (phaseOf k p) refl
     where
       m : ℕ
       m = phases k
 
       w : ℤ
-      w = placeOf k p
+      w = pelOf k p
 
       go : (q : ℕ) → phaseOf k p ≡ q → tapped k g p′ c′ ≡ tapped k f p c
       go zero e =

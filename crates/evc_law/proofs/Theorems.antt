@@ -66,7 +66,7 @@ module _ (b : EvcBlock) (across : Allowed (b .«pic_w») (b .x) (b .w)) (down : 
   equal-lists : (l m : EvcList) (p q : Picture) → SameMotion b l m → Equal b p q → (c : Component) (x y : ℕ) → generalList b l p c x y ≡ generalList b m q c x y
   unfolding clippedPlace
   equal-lists l m p q same h c x y =
-      ap (λ (s : ℤ → ℤ → ℕ). general (typeOf c) s (clippedPlace b (l .mv) .x) (clippedPlace b (l .mv) .y) x y) (equal-reference p q h c)
+      ap (λ (s : ℤ → ℤ → ℕ). general (typeOf c) s (clippedPlace b (l .mv) .x .0) (clippedPlace b (l .mv) .y .0) x y) (equal-reference p q h c)
       ∙ ap₂ (λ (u v : ℤ). general (typeOf c) (referenceOf (typeOf c) (b .«pic_w») (b .«pic_h») (q c)) (pos 4 *ℤ pos (b .x) +ℤ u) (pos 4 *ℤ pos (b .y) +ℤ v) x y) (same .across) (same .down)
 
 -- ---- the general filter

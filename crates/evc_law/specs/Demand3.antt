@@ -9,6 +9,7 @@ use lib.ListN.{length, getD, replicate}
 use Rattle.evc_int.specs.Whole.{−_}
 use Rattle.evc_def.specs.declared.EvcBlock.{EvcBlock}
 use Rattle.evc_def.specs.declared.EvcMv.{EvcMv}
+use Rattle.evc_def.specs.declared.QpelPlace.{QpelPlace}
 use Rattle.evc_plane.specs.Planes.{sideOf, planeLen, sampleAt, referenceOf}
 use Rattle.evc_pad.specs.Padding.{padCode, padAfter}
 use Rattle.evc_clip.specs.Clip.{clippedPlace}
@@ -91,8 +92,8 @@ Witness = Premises witness × Accepted witness
 -- ---- the general filter
 
 -- the general filter at a place, over the padded reference picture
-abbrev pub generalAt : EvcBlock → EvcMv → Picture → Component → ℕ → ℕ → ℕ
-generalAt b place p c x y = general (typeOf c) (referenceOf (typeOf c) (b .«pic_w») (b .«pic_h») (p c)) (place .x) (place .y) x y
+abbrev pub generalAt : EvcBlock → QpelPlace → Picture → Component → ℕ → ℕ → ℕ
+generalAt b place p c x y = general (typeOf c) (referenceOf (typeOf c) (b .«pic_w») (b .«pic_h») (p c)) (place .x .0) (place .y .0) x y
 
 -- at a list's clipped place
 abbrev pub generalList : EvcBlock → EvcList → Picture → Component → ℕ → ℕ → ℕ

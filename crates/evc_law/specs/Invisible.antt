@@ -6,16 +6,18 @@ use mathlib.Core.List.{List}
 use mathlib.Core.Path.{_≡_}
 use Prim.Native.Nat.{ℕ, _+_, _*_, _/_, _≤_, _<_}
 use lib.Dec.{eqb}
-use lib.IntN.{ℤ, pos, _+ℤ_, _*ℤ_}
+use lib.IntN.{ℤ, pos, _+ℤ_}
 use lib.ListN.{length}
 use lib.Signed.{_≤ℤ_}
 use Rattle.evc_int.specs.Whole.{−_}
+use Rattle.evc_def.specs.Places.{qpelPlace}
 use Rattle.evc_def.specs.declared.EvcBlock.{EvcBlock}
 use Rattle.evc_def.specs.declared.EvcMv.{EvcMv}
+use Rattle.evc_def.specs.declared.QpelPlace.{QpelPlace}
 use Rattle.evc_plane.specs.declared.PlaneType.{PlaneType}
 use Rattle.evc_plane.specs.declared.PlaneType.the-variants.{Y, UV}
 use Rattle.evc_plane.specs.Planes.{sideOf, sampleAt, reference}
-use Rattle.evc_clip.specs.Clip.{clipComponent, clipMv, clippedPlace}
+use Rattle.evc_clip.specs.Clip.{clipComponent, clipMv, placeOf, clippedPlace}
 use Rattle.evc_mc.specs.declared.EvcList.{EvcList}
 use Rattle.evc_mc.specs.Block.{Component, luma, typeOf, widthOf, heightOf, predLen}
 use Rattle.evc_law.specs.General.{general}
@@ -76,8 +78,8 @@ Quarters =
 -- ---- clipping
 
 -- "the exact unclipped place": 4x + mvx across and 4y + mvy down, with the vector as given
-abbrev pub exactPlace : EvcBlock → EvcMv → EvcMv
-exactPlace b mv = record { x = pos 4 *ℤ pos (b .x) +ℤ mv .x; y = pos 4 *ℤ pos (b .y) +ℤ mv .y }
+abbrev pub exactPlace : EvcBlock → EvcMv → QpelPlace
+exactPlace b mv = qpelPlace (placeOf (b .x) (mv .x)) (placeOf (b .y) (mv .y))
 
 -- the general filter there: a list's sample, and a call's
 abbrev pub exactList : EvcBlock → EvcList → Picture → Component → ℕ → ℕ → ℕ
@@ -128,7 +130,7 @@ Shows b mv picture x y other =
     let s = reference picture (b .«pic_w») (b .«pic_h») in
     let clipped = clippedPlace b mv in
     let exact = exactPlace b mv in
-    (general Y s (clipped .x) (clipped .y) x y ≡ 0) × (general Y s (exact .x) (exact .y) x y ≡ other)
+    (general Y s (clipped .x .0) (clipped .y .0) x y ≡ 0) × (general Y s (exact .x .0) (exact .y .0) x y ≡ other)
 
 -- blocks over the whole of a picture
 abbrev pub wideBlock : EvcBlock
