@@ -9,7 +9,7 @@ use Rattle.evc_def.specs.Blocks.{badPicture, badBlock}
 use Rattle.evc_def.specs.Codes.{firstOf}
 use Rattle.evc_def.proofs.Codes.{passed, none}
 use Rattle.evc_pad.specs.Padding.{padCode, padAfter}
-use Rattle.evc_plane.specs.Planes.{sideOf, strideOf, planeLen, firstSample}
+use Rattle.evc_plane.specs.Planes.{sideOf, strideOf, planeLen, pictureStart}
 use Rattle.evc_samples.proofs.Samples.{none-exceeds}
 use Rattle.evc_mc.specs.Block.{RefPicList, Component, luma, cb, cr, typeOf, planeOf, predLen}
 use Rattle.evc_def.specs.declared.EvcMv.{EvcMv}
@@ -32,7 +32,7 @@ flat-accepted c =
     let s = flatPicture 16 12 1023 c in
     passed 1 _ _ refl
     ∙ passed 4 _ _ (le-ltb _ _ (long (planeLen t 16 12) 1023))
-    ∙ passed 6 _ _ (none-exceeds s (firstSample t 16) (strideOf t 16) (sideOf t 16) (sideOf t 12) (λ y x _ _. replicate-most (planeLen t 16 12) 1023 _))
+    ∙ passed 6 _ _ (none-exceeds s (pictureStart t 16) (strideOf t 16) (sideOf t 16) (sideOf t 12) (λ y x _ _. replicate-most (planeLen t 16 12) 1023 _))
     ∙ none
 
 flat-plane : (mv : EvcMv) (poc : ℕ) (c : Component) → planeOf c (flatList 16 12 1023 mv poc) ≡ padAfter (typeOf c) 16 12 (flatPicture 16 12 1023 c)

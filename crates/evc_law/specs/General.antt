@@ -6,10 +6,9 @@ use lib.IntN.{ℤ, pos, _+ℤ_}
 use lib.ListN.{getD}
 use lib.Signed.{shrZ}
 use Rattle.evc_int.specs.Whole.{−_, _⁺, _modulo_}
-use Rattle.evc_def.specs.Tables.{tblMcLCoeff, tblMcCCoeff}
 use Rattle.evc_plane.specs.declared.PlaneType.{PlaneType}
 use Rattle.evc_plane.specs.declared.PlaneType.the-variants.{Y, UV}
-use Rattle.evc_filter.specs.Filter.{tapSum}
+use Rattle.evc_filter.specs.Filter.{tblMcLCoeff, tblMcCCoeff, tapSum}
 
 -- "its whole part the place >> 2 (chroma 3 ..)"
 abbrev pub wholePart : PlaneType → ℤ → ℤ
