@@ -42,11 +42,7 @@ form-not-11 s l z = not-11 _ refl (sym (passed 11 _ _ (le-ltb _ _ l)) ∙ z)
 
 vectors-not-11 : (p : Pocs) (mv : EvcMv) → directVectors p mv .code ≡ 11 → ⊥
 unfolding directVectors
-vectors-not-11 p mv = go (eqb (p .poc1) (p .«list_poc0»)) _ _ refl refl
-  where
-    go : (c : Bool) (x y : EvcDirect) → x .code ≡ 0 → y .code ≡ 0 → cond c x y .code ≡ 11 → ⊥
-    go true x y f g e = absurd (omega arith)
-    go false x y f g e = absurd (omega arith)
+vectors-not-11 p mv e = absurd (let z : 0 ≡ 11 = e in omega arith)
 
 direct-not-11 : (b : EvcBlock) (p : Pocs) (has : Bool) (col : List ℤ) → getMvDir b p has col .code ≡ 11 → ⊥
 unfolding getMvDir
