@@ -141,7 +141,7 @@ impl Pel {
         requires { ⌜ pos 0 ≤ℤ self .0 ⌝ }
         ensures { λ r. ⌜ pos (r .0) ≡ shrZ (self .0) 4 ⌝ }
     {
-        Scu((self.0 >> MIN_CU_LOG2) as usize)
+        Scu((self.0 as u32 >> MIN_CU_LOG2) as usize)
     }
 }
 

@@ -1,6 +1,5 @@
 -- Units of a picture: how many there are, and that each index lies below. Assumes nothing.
-use mathlib.Core.Path.{_≡_}
-use Prim.Native.Nat.{ℕ, _*_, _/_, _%_, _≤_, _<_}
+use Prim.Native.Nat.{ℕ, _*_, _/_, _≤_, _<_}
 use native.Mathlib.Omega.{arith}
 use native.Mathlib.Nat.{mul-le-mul, mul-comm}
 use Rattle.evc_int.proofs.Lists.{row-fits}
@@ -10,9 +9,6 @@ use Rattle.evc_map.specs.Maps.{unitsOf, mostUnits, unitIndex, scup}
 
 pub units-small : (w h : ℕ) → w ≤ 2032 → h ≤ 2032 → w * h ≤ mostUnits
 units-small w h p q = mul-le-mul p q
-
-pub picture-small : (W H : ℕ) → W ≤ 8128 → H ≤ 8128 → unitsOf W H ≤ mostUnits
-picture-small W H p q = units-small (W / 4) (H / 4) (omega arith) (omega arith)
 
 pub index-below : (W H column row : ℕ) → column < W / 4 → row < H / 4 → unitIndex W column row < unitsOf W H
 index-below W H column row p q = omega (arith, row-fits (W / 4) q, mul-comm (W / 4) (H / 4))

@@ -1,18 +1,18 @@
 -- What the checks leave for the candidates: the maps reach to the block's unit, and a flagged neighbour lies before it. Assumes nothing.
-use mathlib.Core.Bool.{Bool, true, false, cond, _&&_, _||_}
+use mathlib.Core.Bool.{Bool, true, false, _&&_, _||_}
 use mathlib.Core.List.{List}
-use mathlib.Core.Path.{_≡_, refl, sym, ap, subst, _∙_}
+use mathlib.Core.Path.{_≡_, refl}
 use Prim.Native.Nat.{ℕ, zero, suc, _+_, _-_, _*_, _/_, _%_, _≤_, _<_}
 use native.Mathlib.Nat.{mul-le-mul-right}
 use native.Mathlib.Omega.{arith}
 use borrow.Author.Tests.{ltb-false, eqb-false}
-use lib.Dec.{T, eqb}
+use lib.Dec.{eqb}
 use lib.IntN.{ℤ}
 use Rattle.evc_int.proofs.Bools.{none-true, and-false-right}
 use Rattle.evc_def.specs.Blocks.{Allowed}
 use Rattle.evc_def.specs.Tables.{isBit}
 use Rattle.evc_def.specs.declared.EvcBlock.{EvcBlock}
-use Rattle.evc_map.specs.Maps.{unitsOf, mvLen, mapShort, wScu, xScu, yScu, scup}
+use Rattle.evc_map.specs.Maps.{unitsOf, mvLen, mapShort, wScu, scup}
 use Rattle.evc_motion.specs.Candidates.{flagOutside, mapsShort, neighbour}
 
 module _ (b : EvcBlock) (map : ℕ) (has : Bool) (col : ℕ) (e : mapsShort b map has col ≡ false) (n : ℕ) (below : n < unitsOf (b .«pic_w») (b .«pic_h»)) where

@@ -1,5 +1,5 @@
 -- `evc_avail::evc_get_avail_inter` meets its contract. Assumes nothing.
-use mathlib.Core.List.{List, [], _∷_}
+use mathlib.Core.List.{List}
 use mathlib.Core.Path.{_≡_, sym, _∙_}
 use Prim.Native.Nat.{ℕ, _≤_}
 use native.Mathlib.Omega.{arith}
@@ -7,7 +7,7 @@ use borrow.Author.Needs.{needs}
 use borrow.Author.Tests.{ne-eqb, ltb-false}
 use lib.ListN.{length}
 use Rattle.evc_def.specs.Blocks.{Allowed}
-use Rattle.evc_def.specs.Codes.{_when_, firstOf, blockChecks}
+use Rattle.evc_def.specs.Codes.{firstOf, blockChecks}
 use Rattle.evc_def.specs.declared.EvcBlock.{EvcBlock}
 use Rattle.evc_def.proofs.Codes.{accepted, both-accepted}
 use Rattle.evc_def.proofs.Blocks.{allowed-block}

@@ -1,5 +1,5 @@
 -- `evc_camera::camera_code` meets its contract: 1, then 4. Assumes nothing.
-use mathlib.Core.Bool.{Bool, false, _||_}
+use mathlib.Core.Bool.{false, _||_}
 use mathlib.Core.Path.{_≡_, sym, ap₂, _∙_}
 use borrow.Author.Needs.{needs}
 use Rattle.evc_def.specs.Blocks.{badPicture}

@@ -1,6 +1,5 @@
 -- `evc_direct::collocated_mv` meets its contract. Assumes nothing.
 use native.Mathlib.Omega.{arith}
-use borrow.Author.Needs.{needs}
 use Rattle.evc_direct.proofs.collocated_mv.Statement.{statement}
 use Rattle.evc_direct.proofs.collocated_mv.Tie as tie
 

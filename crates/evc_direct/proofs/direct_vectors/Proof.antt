@@ -1,13 +1,12 @@
 -- `evc_direct::direct_vectors` meets its contract: zeros where co is 0, else four scaled components. Assumes nothing.
-use mathlib.Core.Path.{_≡_, refl, sym, ap₂, _∙_}
-use Prim.Native.Nat.{ℕ, zero, suc, _+_, _≤_, _<_}
+use mathlib.Core.Path.{_≡_, refl, ap₂, _∙_}
+use Prim.Native.Nat.{ℕ, zero, suc, _≤_, _<_}
 use native.Mathlib.Omega.{arith}
 use borrow.Author.Needs.{needs}
 use borrow.Author.Tests.{eq-eqb, ne-eqb}
-use lib.IntN.{ℤ, pos, natAbs, negℤ, _-ℤ_}
+use lib.IntN.{ℤ, pos, natAbs, _-ℤ_}
 use mir.Syntax.{w32}
 use mir.Val.{toZ, ofZ}
-use Rattle.evc_int.specs.Whole.{_⁺, _⁻}
 use Rattle.evc_int.specs.LowBits.{low16}
 use Rattle.evc_int.proofs.Whole.{is--, is-eq, nat, abs-of}
 use Rattle.evc_int.proofs.Expressions.{ !, _⊖_, neg, solve}

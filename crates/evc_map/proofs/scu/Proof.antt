@@ -1,9 +1,8 @@
 -- `evc_map::scu` meets its contract. Assumes nothing.
-use mathlib.Core.Path.{_≡_, ap, _∙_}
+use mathlib.Core.Path.{ap, _∙_}
 use native.Mathlib.Omega.{arith}
 use borrow.Author.Needs.{needs}
-use Prim.Native.Nat.{ℕ}
-use lib.IntN.{ℤ, pos, natAbs}
+use lib.IntN.{ℤ, natAbs}
 use lib.Signed.{shrZ}
 use Rattle.evc_int.proofs.Whole.{nat, is-eq, yes-≤ℤ}
 use Rattle.evc_map.proofs.scu.Statement.{statement}

@@ -83,6 +83,7 @@ first r = r .before .before .before .before .before .before .before .before .bef
 mv-at-requires : tie.Need-mv-at-requires
 mv-at-requires c κs =
     let k = first (c .before .before) in
+    let p = k .before .pre in
     (omega arith, col-reaches (k .before .args .b) _ _ _ (k .before .pre .1 .1) _ (inside k) (c .if1 .taken))
 
 -- the three neighbours, with any fourth that is the collocated one

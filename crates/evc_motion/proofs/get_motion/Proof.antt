@@ -1,6 +1,6 @@
 -- `evc_motion::get_motion` meets its contract: refused with the record as it was, or filled. Assumes nothing.
 use mathlib.Core.Bool.{Bool, false}
-use mathlib.Core.List.{List, [], _∷_}
+use mathlib.Core.List.{List}
 use mathlib.Core.Path.{_≡_, sym, _∙_}
 use Prim.Native.Nat.{ℕ, _≤_}
 use native.Mathlib.Omega.{arith}

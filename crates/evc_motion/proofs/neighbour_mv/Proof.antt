@@ -1,5 +1,4 @@
 -- `evc_motion::neighbour_mv` meets its contract. Assumes nothing.
-use borrow.Author.Needs.{needs}
 use native.Mathlib.Omega.{arith}
 use Rattle.evc_motion.proofs.neighbour_mv.Statement.{statement}
 use Rattle.evc_motion.proofs.neighbour_mv.Tie as tie
