@@ -77,6 +77,7 @@ is-inter-requires-2 c κs =
     let k = around r in
     let w = across k in
     let e = w .before in
+    let p = start e .pre .1 .0 in
     λ t. let u = upper-right r .index-low t in (omega arith, omega (arith, w .scu .ensures, k .scu2 .ensures))
 
 returns-2 : tie.Need-returns-2
