@@ -99,7 +99,7 @@ module _ (k : PlaneType) (s : ℤ → ℤ → ℕ) (px py : ℤ) (c r : ℕ) whe
   pub across-alone : phaseOf k py ≡ 0 → general k s px py c r ≡ singleStage (tapped k (λ (i : ℤ). pos (s i (pelOf k py +ℤ pos r))) px c)
   unfolding general general₁ row
   across-alone h =
-      ap (λ (z : ℤ). clipSample (shrZ (z +ℤ pos 512) 1024)) (tapped-whole k (general₁ k s px c) py r h)
+      ap (λ (z : ℤ). clipSample (shrZ (z +ℤ pos 512) 1024)) (tapped-whole k _ py r h)
       ∙ ap clipSample (twice-down (tapped k (λ (i : ℤ). pos (s i row)) px c))
 
   pub sample-alone : phaseOf k px ≡ 0 → phaseOf k py ≡ 0 → s (pelOf k px +ℤ pos c) (pelOf k py +ℤ pos r) ≤ 1023 → general k s px py c r ≡ s (pelOf k px +ℤ pos c) (pelOf k py +ℤ pos r)
