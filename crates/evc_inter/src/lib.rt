@@ -1,6 +1,8 @@
+//! The calls of include/evc_inter.h, each over the function that does its work.
 ghost use mathlib.Core.Path.{_≡_};
 ghost use Rattle.evc_clip.specs.Clip.{mvClip};
 ghost use Rattle.evc_avail.specs.Flags.{getAvailInter};
+ghost use Rattle.evc_direct.specs.declared.Pocs.{Pocs};
 ghost use Rattle.evc_direct.specs.Direct.{getMvDir};
 ghost use Rattle.evc_motion.specs.Candidates.{getMotion};
 ghost use Rattle.evc_pad.specs.Padding.{padCode, padAfter};
@@ -9,6 +11,7 @@ ghost use Rattle.evc_mc.specs.Block.{refPicList, mc2Code, mc2First, mc2Second};
 ghost use Rattle.evc_inter.specs.Code.{blank};
 ghost use Rattle.evc_inter.specs.Kinds.{planeType};
 ghost use Rattle.evc_camera.specs.Camera.{cameraMotion};
+ghost use Rattle.evc_trace.specs.declared.TraceHeader.{TraceHeader};
 ghost use Rattle.evc_trace.specs.Format.{writeHeaderCode, writeHeaderAfter, writeRecordCode, writeRecordAfter};
 ghost use Rattle.evc_record.specs.Record.{planes};
 ghost use Rattle.evc_replay.specs.Replay.{replayed};
@@ -60,7 +63,9 @@ pub extern "C" fn evc_get_mv_dir(
     has_col: bool,
     col_mv: &[i16],
 ) -> EvcDirect
-    ensures { λ r. ⌜ r ≡ getMvDir block (record { poc = poc; poc0 = poc0; poc1 = poc1; «list_poc0» = «list_poc0» }) «has_col» (now («col_mv» .entry)) ⌝ }
+    ensures { λ r. ⌜ (
+        let pocs : Pocs = record { poc = poc; poc0 = poc0; poc1 = poc1; «list_poc0» = «list_poc0» } in
+        r ≡ getMvDir block pocs «has_col» (now («col_mv» .entry))) ⌝ }
 {
     let pocs = Pocs {
         poc,
@@ -142,8 +147,12 @@ pub extern "C" fn evc_mc_plane(
     plane: &[u16],
     pred: &mut [u16],
 ) -> u32
-    ensures { λ r. ⌜ r ≡ mcPlaneCode (planeType chroma) «pic_w» «pic_h» gmv w h (now (plane .entry)) (now (pred .entry)) ⌝ }
-    ensures { λ _. ⌜ now (pred .exit) ≡ mcPlaneAfter (planeType chroma) «pic_w» «pic_h» «ori_mv» gmv w h (now (plane .entry)) (now (pred .entry)) ⌝ }
+    ensures { λ r. ⌜ (
+        let t = planeType chroma in
+        r ≡ mcPlaneCode t «pic_w» «pic_h» gmv w h (now (plane .entry)) (now (pred .entry))) ⌝ }
+    ensures { λ _. ⌜ (
+        let t = planeType chroma in
+        now (pred .exit) ≡ mcPlaneAfter t «pic_w» «pic_h» «ori_mv» gmv w h (now (plane .entry)) (now (pred .entry))) ⌝ }
 {
     evc_interp::evc_mc_plane(
         plane_type(chroma),
@@ -199,7 +208,9 @@ pub extern "C" fn evc_trace_write_header(
     out: &mut [u8],
 ) -> u32
     ensures { λ r. ⌜ r ≡ writeHeaderCode «pic_w» «pic_h» (now (out .entry)) ⌝ }
-    ensures { λ _. ⌜ now (out .exit) ≡ writeHeaderAfter (record { «pic_w» = «pic_w»; «pic_h» = «pic_h»; poc = poc; «list_poc0» = «list_poc0» }) (now (out .entry)) ⌝ }
+    ensures { λ _. ⌜ (
+        let header : TraceHeader = record { «pic_w» = «pic_w»; «pic_h» = «pic_h»; poc = poc; «list_poc0» = «list_poc0» } in
+        now (out .exit) ≡ writeHeaderAfter header (now (out .entry))) ⌝ }
 {
     evc_trace::evc_trace_write_header(pic_w, pic_h, poc, list_poc0, out)
 }
@@ -238,7 +249,8 @@ pub extern "C" fn evc_trace_replay(
         let ref0 = planes (now (y0 .entry)) (now (u0 .entry)) (now (v0 .entry)) in
         let ref1 = planes (now (y1 .entry)) (now (u1 .entry)) (now (v1 .entry)) in
         let target = planes (now (y .entry)) (now (u .entry)) (now (v .entry)) in
-        record { answer = r; target = planes (now (y .exit)) (now (u .exit)) (now (v .exit)) } ≡ replayed (now (trace .entry)) ref0 ref1 «has_col» (now («col_mv» .entry)) target) ⌝ }
+        let after = planes (now (y .exit)) (now (u .exit)) (now (v .exit)) in
+        record { answer = r; target = after } ≡ replayed (now (trace .entry)) ref0 ref1 «has_col» (now («col_mv» .entry)) target) ⌝ }
 {
     evc_replay::evc_trace_replay(trace, y0, u0, v0, y1, u1, v1, has_col, col_mv, y, u, v)
 }

@@ -42,10 +42,10 @@ loop-again c =
     let z = c .before .before .before .before .before .args in
     let row = c .before .row-of .result .now in
     let e : rowExceeds row 0 8 || rowExceeds row (z .n - 8) 8 ≡ rowExceeds (now (z .s)) (z .at + i .y * z .stride) (z .n) =
-        ap (λ (at : ℕ). rowExceeds row 0 8 || rowExceeds row (at - 8) 8) (sym (zero-add (z .n)))
-        ∙ ends-all row 0 (z .n) 8 8 (omega arith) (omega arith) (omega arith)
-        ∙ ap (λ (l : List ℕ). rowExceeds l 0 (z .n)) (c .before .row-of .ensures)
-        ∙ row-from (now (z .s)) (z .at + i .y * z .stride) (z .n) in
+    ap (λ (at : ℕ). rowExceeds row 0 8 || rowExceeds row (at - 8) 8) (sym (zero-add (z .n)))
+    ∙ ends-all row 0 (z .n) 8 8 (omega arith) (omega arith) (omega arith)
+    ∙ ap (λ (l : List ℕ). rowExceeds l 0 (z .n)) (c .before .row-of .ensures)
+    ∙ row-from (now (z .s)) (z .at + i .y * z .stride) (z .n) in
     (omega arith, rows-more _ _ _ _ _ (octExceeds (i .o)) _ _ (i .inv .1) e (c .gather-oct .ensures))
 
 returns : tie.Need-returns Inv-loop μ-loop
