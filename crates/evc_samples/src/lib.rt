@@ -83,7 +83,8 @@ fn or_octs(s: &[u16], at: usize, stride: usize, n: usize, h: usize) -> u16
         o7: 0,
     };
     for y in 0..h {
-        o = gather_oct(o, evc_plane::row_of(s, stride, at, y), 0, n - 8);
+        let i = at + y * stride;
+        o = gather_oct(o, s, i, i + n - 8);
     }
     gather(
         gather(
@@ -109,7 +110,8 @@ fn or_quads(s: &[u16], at: usize, stride: usize, n: usize, h: usize) -> u16
         o3: 0,
     };
     for y in 0..h {
-        o = gather_quad(o, evc_plane::row_of(s, stride, at, y), 0, n - 4);
+        let i = at + y * stride;
+        o = gather_quad(o, s, i, i + n - 4);
     }
     gather(gather(gather(o.o0, o.o1), o.o2), o.o3)
 }

@@ -1,17 +1,14 @@
 -- `evc_samples::or_quads` meets its contract. The invariant: the lanes stand for the first y rows. Assumes nothing.
 use Prim.Native.Nat.{ℕ, _+_, _-_, _*_, _≤_}
 use mathlib.Core.Bool.{Bool, _||_}
-use mathlib.Core.List.{List}
-use mathlib.Core.Path.{_≡_, sym, ap, _∙_}
+use mathlib.Core.Path.{_≡_, refl, ap, _∙_}
 use native.Mathlib.Omega.{arith}
 use borrow.Author.Needs.{needs}
 use denote.Ref.{now}
-use lib.ListN.{length, length-drop}
-use native.Mathlib.Nat.{zero-add}
 use Rattle.evc_int.proofs.Lists.{row-fits}
 use Rattle.evc_samples.specs.Samples.{tooLarge, rowExceeds, exceeds}
 use Rattle.evc_samples.specs.Code.{quadExceeds}
-use Rattle.evc_samples.proofs.Samples.{row-from, rows-none, rows-more, ends-all}
+use Rattle.evc_samples.proofs.Samples.{rows-none, rows-more, ends-all}
 use Rattle.evc_samples.proofs.Lanes.{no-quad}
 use Rattle.evc_samples.proofs.or_quads.Statement.{statement}
 use Rattle.evc_samples.proofs.or_quads.Tie as tie
@@ -28,25 +25,16 @@ loop-holds c = (omega arith, no-quad ∙ rows-none _ _ _ _)
 room : (c : tie.In-loop Inv-loop μ-loop) → c .before .loop .y * c .before .before .before .args .stride + c .before .before .before .args .stride ≤ c .before .before .before .args .h * c .before .before .before .args .stride
 room c = row-fits _ (c .loop-test .taken)
 
--- what lies in the plane from the row on has the whole row
-long : (c : tie.After-row-of Inv-loop μ-loop) → c .before .before .before .before .args .n ≤ length (c .row-of .result .now)
-long c =
-    let z = c .before .before .before .before .args in
-    let e = ap length (c .row-of .ensures) ∙ length-drop (z .at + c .before .before .loop .y * z .stride) (now (z .s)) in
-    let r = room (c .before) in
-    omega (arith, e)
-
 loop-again : tie.Need-loop-again Inv-loop μ-loop
 loop-again c =
-    let i = c .before .before .before .loop in
-    let z = c .before .before .before .before .before .args in
-    let row = c .before .row-of .result .now in
-    let e : rowExceeds row 0 4 || rowExceeds row (z .n - 4) 4 ≡ rowExceeds (now (z .s)) (z .at + i .y * z .stride) (z .n) =
-    ap (λ (at : ℕ). rowExceeds row 0 4 || rowExceeds row (at - 4) 4) (sym (zero-add (z .n)))
-    ∙ ends-all row 0 (z .n) 4 4 (omega arith) (omega arith) (omega arith)
-    ∙ ap (λ (l : List ℕ). rowExceeds l 0 (z .n)) (c .before .row-of .ensures)
-    ∙ row-from (now (z .s)) (z .at + i .y * z .stride) (z .n) in
-    (omega arith, rows-more _ _ _ _ _ (quadExceeds (i .o)) _ _ (i .inv .1) e (c .gather-quad .ensures))
+    let z = c .before .before .before .before .args in
+    let y = c .before .before .loop .y in
+    let o = c .before .before .loop .o in
+    let row = z .at + y * z .stride in (
+      omega arith,
+      rows-more (now (z .s)) (z .at) (z .stride) (z .n) y (quadExceeds o) (rowExceeds (now (z .s)) row (z .n)) _ (c .before .before .loop .inv .1) refl
+          (c .gather-quad .ensures ∙ ap (λ (b : Bool). quadExceeds o || b) (ends-all (now (z .s)) row (z .n) 4 4 (omega arith) (omega arith) (omega arith))),
+    )
 
 returns : tie.Need-returns Inv-loop μ-loop
 unfolding quadExceeds
@@ -64,9 +52,11 @@ or-quads-spec =
     Inv-loop
     μ-loop
     loop-holds
-    (λ c κs. let r = room c in omega arith)
+    (λ c. let r = room c in omega arith)
+    (λ c. let r = room c in omega arith)
+    (λ c. let r = room c in omega arith)
     (λ c. omega arith)
-    (λ c κs. let l = long c in omega arith)
+    (λ c κs. let r = room c in omega arith)
     (λ c. omega arith)
     (λ c. omega arith)
     loop-again
