@@ -21,7 +21,7 @@ use ghost.Atoms.{Atoms, sem}
 use contract.Monad.{Fun}
 use contract.Running.{givenOf, tables, tablesOf}
 use types.Kit.{Given, ‵, raw, some, later, _⊛_, _$_, _∵_, !, qed, by, move, keep, use1, use2, use3, split, join, pick, rewrite, fsplit, fjoin, suffices, frame, await, updating, now as at-once, done}
-use types.Run.{look, init, stop, hop, fld, from, load, lit, addr, of-opd, and-then, no-more, bin, assigns, returns, enter, alloc1, alloc0, params1, pass1, pass0, free0}
+use types.Run.{look, init, stop, hop, fld, from, load, lit, addr, of-opd, and-then, no-more, bin, returns, enter, alloc1, alloc0, params1, pass1, pass0, free0}
 use types.Part.{agg, whole, sub, look-in}
 use types.Hole.{here}
 use sound.WpLaws.{WpFn-mono}
@@ -43,7 +43,7 @@ use borrow.Table.Elements.{at, at-mul}
 use Rattle.evc_mc.specs.Ends.{withTail, endsAs, bothEnd, onceEnded}
 use Rattle.evc_mc.proofs.Ends.{gives-up, once-ended}
 use Rattle.evc_mc.proofs.Tail.{Tie, part, tail-out, tail-ends}
-use Rattle.evc_mc.proofs.Walk.{slice, chooses, lets-go, tells}
+use Rattle.evc_mc.proofs.Walk.{slice, reads, sets, chooses, lets-go, tells}
 use Rattle.evc_mc.proofs.pick.Key.{name as #evc-mc·pick}
 use Rattle.evc_mc.proofs.pick as picker
 use Rattle.evc_mc.proofs.pick.Statement as stated
@@ -158,15 +158,15 @@ module _ {M : Type 1} (𝓤 : URA M) (H : Heap 𝓤) (A : Atoms 𝓤) (W : Given
         qed W (raw (Entry t) ∷ []) ∵ enter ! C Λ code.function (slice x ∷ slice y ∷ vbool t ∷ vint w64 k ∷ []) _ $
         alloc1 ! (λ l₀. alloc1 ! (λ l₁. alloc1 ! (λ l₂. alloc1 ! (λ l₃. alloc1 ! (λ l₄. alloc1 ! (λ l₅. alloc1 ! (λ l₆. alloc1 ! (λ l₇. alloc1 ! (λ l₈. alloc1 ! (λ l₉. alloc1 ! (λ l₁₀. alloc1 ! (λ l₁₁. alloc0 ! $ params1 ! $
         pass1 ! (init ! 20 refl (tt, (tt, (record { fits = room₀ .0 }, tt)))) $ pass1 ! (init ! 18 refl (tt, (tt, (record { fits = room₁ .0 }, tt)))) $ pass1 ! (init ! 16 refl (tt, tt)) $ pass1 ! (init ! 14 refl (tt, record { fits = k-fits })) $ pass0 ! $
-        assigns ! (of-opd ! (load ! (from ! (stop !)) (look ! 16 refl))) (from ! (stop !)) (init ! 10 refl (tt, tt)) $
-        chooses ! (load ! (from ! (stop !)) (look ! 10 refl)) (λ h. of-opd ! (load ! (from ! (stop !)) (look ! 18 (ap (λ (r : RefT (List ℕ)). ‵ (fat fullShare lent l₂ 0 (slice r))) (second-is t y x h)))))
-        (λ h. of-opd ! (load ! (from ! (stop !)) (look ! 20 (ap (λ (r : RefT (List ℕ)). ‵ (fat fullShare lent l₁ 0 (slice r))) (first-is t y x h))))) (from ! (stop !)) (init ! 8 refl (tt, (tt, (record { fits = room .0 }, tt)))) $
-        assigns ! (of-opd ! (load ! (from ! (stop !)) (look ! 8 refl))) (from ! (stop !)) (init ! 12 refl (tt, (tt, (record { fits = room .0 }, tt)))) $
-        assigns ! (bin ! (load ! (from ! (stop !)) (look ! 14 refl)) (lit ! tt) twice) (from ! (stop !)) (init ! 6 refl (tt, twice)) $
-        assigns ! (bin ! (load ! (from ! (fld ! refl (stop !))) (look-in ! 12 (sub ! 0 refl (whole !)))) (load ! (from ! (stop !)) (look ! 6 refl)) tt) (from ! (stop !)) (init ! 4 refl (tt, tt)) $
-        assigns ! (bin ! (load ! (from ! (fld ! refl (stop !))) (look-in ! 12 (sub ! 1 refl (whole !)))) (load ! (from ! (stop !)) (look ! 14 refl)) le) (from ! (stop !)) (init ! 2 refl (tt, left)) $
-        assigns ! (addr ! (from ! (hop ! (look ! 4 refl) (stop !)))) (from ! (stop !)) (init ! 0 refl (tt, tt)) $
-        assigns ! (agg ! (and-then ! (load ! (from ! (stop !)) (look ! 0 refl)) (and-then ! (load ! (from ! (stop !)) (look ! 2 refl)) (no-more !)))) (from ! (stop !)) (init ! 22 refl (tt, (tt, (left, tt)))) $
+        sets ! (of-opd ! (reads ! 16 refl)) 10 refl (tt, tt) $
+        chooses ! (reads ! 10 refl) (λ h. of-opd ! (reads ! 18 (ap (λ (r : RefT (List ℕ)). ‵ (fat fullShare lent l₂ 0 (slice r))) (second-is t y x h))))
+        (λ h. of-opd ! (reads ! 20 (ap (λ (r : RefT (List ℕ)). ‵ (fat fullShare lent l₁ 0 (slice r))) (first-is t y x h)))) (from ! (stop !)) (init ! 8 refl (tt, (tt, (record { fits = room .0 }, tt)))) $
+        sets ! (of-opd ! (reads ! 8 refl)) 12 refl (tt, (tt, (record { fits = room .0 }, tt))) $
+        sets ! (bin ! (reads ! 14 refl) (lit ! tt) twice) 6 refl (tt, twice) $
+        sets ! (bin ! (load ! (from ! (fld ! refl (stop !))) (look-in ! 12 (sub ! 0 refl (whole !)))) (reads ! 6 refl) tt) 4 refl (tt, tt) $
+        sets ! (bin ! (load ! (from ! (fld ! refl (stop !))) (look-in ! 12 (sub ! 1 refl (whole !)))) (reads ! 14 refl) le) 2 refl (tt, left) $
+        sets ! (addr ! (from ! (hop ! (look ! 4 refl) (stop !)))) 0 refl (tt, tt) $
+        sets ! (agg ! (and-then ! (reads ! 0 refl) (and-then ! (reads ! 2 refl) (no-more !)))) 22 refl (tt, (tt, (left, tt))) $
         returns ! (look ! 22 refl) $ move ! (22 ∷ 23 ∷ []) $ lets-go ! $ move ! (20 ∷ 21 ∷ []) $ lets-go ! $ move ! (18 ∷ 19 ∷ []) $ lets-go ! $ move ! (16 ∷ 17 ∷ []) $ lets-go ! $ move ! (14 ∷ 15 ∷ []) $ lets-go ! $ move ! (12 ∷ 13 ∷ []) $ lets-go ! $
         move ! (10 ∷ 11 ∷ []) $ lets-go ! $ move ! (8 ∷ 9 ∷ []) $ lets-go ! $ move ! (6 ∷ 7 ∷ []) $ lets-go ! $ move ! (4 ∷ 5 ∷ []) $ lets-go ! $ move ! (2 ∷ 3 ∷ []) $ lets-go ! $ lets-go ! $ free0 ! $ by ! (exits t le)))))))))))))
 

@@ -22,7 +22,7 @@ use contract.Lifetimes.{Lfts, Shares}
 use contract.Monad.{Fun, fact, factI}
 use contract.Running.{givenOf, tables, tablesOf}
 use types.Kit.{Given, Item, Goal, Go, Step, step, ⋆, ‵, raw, some, later, _⊛_, _$_, _∵_, !, qed, by, move, keep, drop, use0, use1, use3, split, join, pick, rewrite, group, fsplit, fjoin, feqL, feqI, suffices, frame, await, done}
-use types.Run.{look, init, stop, hop, fld, from, load, addr, unit-lit, of-opd, and-then, no-more, assigns, land, returns, enter, alloc1, alloc0, params1, pass1, pass0, free0}
+use types.Run.{look, init, stop, hop, fld, from, load, addr, unit-lit, of-opd, and-then, no-more, land, returns, enter, alloc1, alloc0, params1, pass1, pass0, free0}
 use types.Part.{agg, whole, sub, look-in}
 use sound.WpLaws.{FmC, fmOf, WpFn-mono}
 use denote.RattleType.{owns}
@@ -54,7 +54,7 @@ use Rattle.evc_interp.proofs.Position as P
 use Rattle.evc_interp.proofs.Position.Laws as P′
 use Rattle.evc_mc.specs.Ends.{withTail, endsAs, bothEnd, onceEnded}
 use Rattle.evc_mc.proofs.Ends.{ended}
-use Rattle.evc_mc.proofs.Walk.{slice, lets-go, needs-both}
+use Rattle.evc_mc.proofs.Walk.{slice, reads, sets, lets-go, needs-both}
 use Rattle.evc_mc.proofs.pick as picker
 use Rattle.evc_mc.proofs.pick.Symbol as pick-def
 use Rattle.evc_mc.proofs.pick.Symbol.{name as #evc-mc·pick}
@@ -240,25 +240,25 @@ module _ {M : Type 1} (𝓤 : URA M) (H : Heap 𝓤) (A : Atoms 𝓤) (W : Given
         pass1 ! (init ! 32 refl (EL.lawful K.the-type K′.the-laws 𝓤 H A W tt .typed t _ gt .0)) $ pass1 ! (init ! 30 refl (SL.lawful P.the-type P′.the-laws 𝓤 H A W .typed p _ gp .0)) $
         pass1 ! (init ! 28 refl (tt, record { fits = w-fits })) $ pass1 ! (init ! 26 refl (tt, record { fits = h-fits })) $ pass1 ! (init ! 24 refl (shr-slice-lawful 𝓤 H A W (named 0) κ₀ u16 .typed plane (slice plane ∷ []) gplane .0)) $
         pass1 ! (init ! 22 refl (tt, (tt, (record { fits = room₀ .0 }, tt)))) $ pass1 ! (init ! 20 refl (tt, (tt, (record { fits = room₁ .0 }, tt)))) $ pass1 ! (init ! 18 refl (tt, tt)) $ pass1 ! (init ! 16 refl (tt, record { fits = k-fits })) $ pass0 ! $
-        assigns ! (addr ! (from ! (fld ! refl (hop ! (look-in ! 22 (sub ! 0 refl (whole !))) (stop !))))) (from ! (stop !)) (init ! 12 refl (tt, tt)) $
-        assigns ! (agg ! (and-then ! (load ! (from ! (stop !)) (look ! 12 refl)) (and-then ! (load ! (from ! (fld ! refl (stop !))) (look-in ! 22 (sub ! 1 refl (whole !)))) (no-more !)))) (from ! (stop !)) (init ! 10 refl (tt, (tt, (record { fits = room₀ .0 }, tt)))) $
-        assigns ! (addr ! (from ! (fld ! refl (hop ! (look-in ! 20 (sub ! 0 refl (whole !))) (stop !))))) (from ! (stop !)) (init ! 8 refl (tt, tt)) $
-        assigns ! (agg ! (and-then ! (load ! (from ! (stop !)) (look ! 8 refl)) (and-then ! (load ! (from ! (fld ! refl (stop !))) (look-in ! 20 (sub ! 1 refl (whole !)))) (no-more !)))) (from ! (stop !)) (init ! 6 refl (tt, (tt, (record { fits = room₁ .0 }, tt)))) $
+        sets ! (addr ! (from ! (fld ! refl (hop ! (look-in ! 22 (sub ! 0 refl (whole !))) (stop !))))) 12 refl (tt, tt) $
+        sets ! (agg ! (and-then ! (reads ! 12 refl) (and-then ! (load ! (from ! (fld ! refl (stop !))) (look-in ! 22 (sub ! 1 refl (whole !)))) (no-more !)))) 10 refl (tt, (tt, (record { fits = room₀ .0 }, tt))) $
+        sets ! (addr ! (from ! (fld ! refl (hop ! (look-in ! 20 (sub ! 0 refl (whole !))) (stop !))))) 8 refl (tt, tt) $
+        sets ! (agg ! (and-then ! (reads ! 8 refl) (and-then ! (load ! (from ! (fld ! refl (stop !))) (look-in ! 20 (sub ! 1 refl (whole !)))) (no-more !)))) 6 refl (tt, (tt, (record { fits = room₁ .0 }, tt))) $
         -- `pick`
         move ! (41 ∷ 38 ∷ 39 ∷ []) $ use3 W (raw (Pick 𝓤 H A mem run .pre to-pick)) goes-pick $
-        calls-at ! fm (Pick 𝓤 H A mem run) known-pick to-pick (and-then ! (load ! (from ! (stop !)) (look ! 11 refl)) (and-then ! (load ! (from ! (stop !)) (look ! 7 refl)) (and-then ! (load ! (from ! (stop !)) (look ! 19 refl)) (and-then ! (load ! (from ! (stop !)) (look ! 17 refl)) (no-more !))))) (λ v.
+        calls-at ! fm (Pick 𝓤 H A mem run) known-pick to-pick (and-then ! (reads ! 11 refl) (and-then ! (reads ! 7 refl) (and-then ! (reads ! 19 refl) (and-then ! (reads ! 17 refl) (no-more !))))) (λ v.
         use1 W (later (some (λ (r : RefT (List ℕ)). ((‵ (flft κ q) ⊛ ‵ ftrue) ⊛ ‵ (MutSlice (named 1) κ u16 .own r (v ∷ []))) ⊛ raw (ensured 𝓤 H A picker.ended (picker.clauses 𝓤 H A mem run) (κ, tt) (x, (y, (s, (k, tt)))) tt r)))) (id⊢ 𝓤 _) $ await ! tt $ pick ! (λ r.
         split ! $ move ! (1 ∷ []) $ use1 W (raw (fact 𝓤 (Shown r)) ⊛ raw (Tied r)) (told r) $ split ! $ heard ! (Shown r) (λ shown.
         move ! (1 ∷ []) $ split ! $ move ! (1 ∷ []) $ peeks ! (MutSlice (named 1) κ u16) (Is (MutSlice (named 1) κ u16)) (shows 𝓤 H A (MutSlice (named 1) κ u16)) r (v ∷ []) (λ is.
         land ! (from ! (stop !)) (init ! 17 refl (subst (λ (z : Val). Holds (hasTy inner z) × WT z) (sym (ap only (is .0 .0))) (tt, (tt, (record { fits = is .0 .1 .0 }, tt))))) $
         rewrite ! 17 (λ (z : Val). ‵ (fat fullShare inner l₁₀ 0 z)) (ap only (is .0 .0)) refl $ rewrite ! 0 (λ (z : Val). ‵ (MutSlice (named 1) κ u16 .own r (z ∷ []))) (ap only (is .0 .0)) refl $
         -- [the part; its token; the tie; _17; …; the plane, twice; the plane's token]
-        assigns ! (addr ! (from ! (fld ! refl (hop ! (look-in ! 17 (sub ! 0 refl (whole !))) (stop !))))) (from ! (stop !)) (init ! 5 refl (tt, tt)) $
-        assigns ! (agg ! (and-then ! (load ! (from ! (stop !)) (look ! 5 refl)) (and-then ! (load ! (from ! (fld ! refl (stop !))) (look-in ! 17 (sub ! 1 refl (whole !)))) (no-more !)))) (from ! (stop !)) (init ! 3 refl (tt, (tt, (record { fits = is .0 .1 .0 }, tt)))) $
+        sets ! (addr ! (from ! (fld ! refl (hop ! (look-in ! 17 (sub ! 0 refl (whole !))) (stop !))))) 5 refl (tt, tt) $
+        sets ! (agg ! (and-then ! (reads ! 5 refl) (and-then ! (load ! (from ! (fld ! refl (stop !))) (look-in ! 17 (sub ! 1 refl (whole !)))) (no-more !)))) 3 refl (tt, (tt, (record { fits = is .0 .1 .0 }, tt))) $
         -- `predict_at`
         move ! (41 ∷ 1 ∷ 39 ∷ 0 ∷ []) $ join ! $ use3 W (raw (PredictAt 𝓤 H A mem run .pre (to-at r))) (goes-at r shown) $
-        calls-at ! fm (PredictAt 𝓤 H A mem run) known-at (to-at r) (and-then ! (load ! (from ! (stop !)) (look ! 34 refl)) (and-then ! (load ! (from ! (stop !)) (look ! 32 refl)) (and-then ! (load ! (from ! (stop !)) (look ! 30 refl)) (and-then ! (load ! (from ! (stop !)) (look ! 28 refl))
-        (and-then ! (load ! (from ! (stop !)) (look ! 26 refl)) (and-then ! (load ! (from ! (stop !)) (look ! 2 refl)) (no-more !))))))) (λ u.
+        calls-at ! fm (PredictAt 𝓤 H A mem run) known-at (to-at r) (and-then ! (reads ! 34 refl) (and-then ! (reads ! 32 refl) (and-then ! (reads ! 30 refl) (and-then ! (reads ! 28 refl)
+        (and-then ! (reads ! 26 refl) (and-then ! (reads ! 2 refl) (no-more !))))))) (λ u.
         use1 W (later (some (λ (r′ : Unit {0}). (Tokens ⊛ ‵ (Nothing .own r′ (u ∷ []))) ⊛ raw (ensured 𝓤 H A predict-at.ended (predict-at.clauses 𝓤 H A mem run) κs (passed r) tt r′)))) (id⊢ 𝓤 _) $ await ! tt $ pick ! (λ r′.
         split ! $ move ! (1 ∷ []) $ use1 W (some (λ (ws : Unit {0} × (Unit {0} × (Unit {0} × (Unit {0} × (Unit {0} × (List ℕ × Unit {0})))))). ‵ (lasts predict-at.ended κs (passed r) ws) ⊛ raw (fact 𝓤 (Said r (ws .1 .1 .1 .1 .1 .0))))) (id⊢ 𝓤 _) $ pick ! (λ ws.
         split ! $ move ! (1 ∷ []) $ heard ! (Said r (ws .1 .1 .1 .1 .1 .0)) (λ e. fsplit ! $ drop ! $ fsplit ! $ drop ! $ fsplit ! $ drop ! $ fsplit ! $ drop ! $ fsplit ! $ drop ! $ fsplit ! $ fsplit ! $ move ! (1 ∷ []) $ feqL ! (λ l.
@@ -267,7 +267,7 @@ module _ {M : Type 1} (𝓤 : URA M) (H : Heap 𝓤) (A : Atoms 𝓤) (W : Given
         land ! (from ! (stop !)) (init ! 8 refl (subst (λ (z : Val). Holds (hasTy tyUnit z) × WT z) (sym (ap only is-unit)) (tt, tt))) $
         split ! $ move ! (1 ∷ []) $ split ! $ move ! (3 ∷ 0 ∷ 5 ∷ []) $ use3 W (later (raw (Both (ws .1 .1 .1 .1 .1 .0)) ⊛ ‵ (flft κ q))) (ended 𝓤 H A W κ r Both q (ws .1 .1 .1 .1 .1 .0)) $ await ! tt $
         -- [both blocks have ended, and their token; true; the plane's token; true; _17; …; the plane]
-        assigns ! (of-opd ! (unit-lit !)) (from ! (stop !)) (init ! 38 refl (tt, tt)) $
+        sets ! (of-opd ! (unit-lit !)) 38 refl (tt, tt) $
         returns ! (look ! 38 refl) $ move ! (38 ∷ 39 ∷ []) $ lets-go ! $ move ! (36 ∷ 37 ∷ []) $ lets-go ! $ move ! (34 ∷ 35 ∷ []) $ lets-go ! $ move ! (32 ∷ 33 ∷ []) $ lets-go ! $ move ! (30 ∷ 31 ∷ []) $ lets-go ! $ move ! (28 ∷ 29 ∷ []) $ lets-go ! $ move ! (26 ∷ 27 ∷ []) $ lets-go ! $ move ! (24 ∷ 25 ∷ []) $ lets-go ! $ move ! (22 ∷ 23 ∷ []) $ lets-go ! $ move ! (20 ∷ 21 ∷ []) $ lets-go ! $ move ! (18 ∷ 19 ∷ []) $ lets-go ! $ move ! (16 ∷ 17 ∷ []) $ lets-go ! $ move ! (14 ∷ 15 ∷ []) $ lets-go ! $ move ! (12 ∷ 13 ∷ []) $ lets-go ! $ move ! (10 ∷ 11 ∷ []) $ lets-go ! $ move ! (8 ∷ 9 ∷ []) $ lets-go ! $ move ! (6 ∷ 7 ∷ []) $ lets-go ! $ move ! (4 ∷ 5 ∷ []) $ lets-go ! $ free0 ! $
         keep ! (0 ∷ 2 ∷ 4 ∷ []) $ by ! (exits _ _ (lasts-of r (ws .1 .1 .1 .1 .1 .0) shown e .0) (lasts-of r (ws .1 .1 .1 .1 .1 .0) shown e .1)))))))))))))))))))))))))))))))
 
