@@ -1,21 +1,20 @@
 -- Laws of clipping. Assumes nothing.
 use mathlib.Core.Bool.{Bool, true, false, cond}
-use mathlib.Core.Logic.{_⊎_, inl, inr}
-use mathlib.Core.Path.{_≡_, refl, sym, ap, subst, _∙_}
-use Prim.Native.Nat.{ℕ, _+_, _-_, _*_, _/_, _%_, _≤_, _<_}
+use mathlib.Core.Path.{_≡_, refl, sym, ap, subst}
+use Prim.Native.Nat.{ℕ, _+_, _-_, _*_, _/_, _≤_, _<_}
 use native.Mathlib.Omega.{arith}
 use lib.Dec.{lit<}
 use lib.IntN.{ℤ, pos, negℤ, _+ℤ_, _-ℤ_, _*ℤ_}
-use lib.Signed.{ltZ, _≤ℤ_}
+use lib.Signed.{_≤ℤ_}
 use mir.Syntax.{w16}
 use mir.Val.{SFits}
 use Rattle.evc_int.specs.Whole.{−_, _⁺, _⁻, _modulo_, clip3}
 use Rattle.evc_int.proofs.Whole.{Tested, under, not-under, of}
 use Rattle.evc_int.proofs.Expressions.{Ex, !, _⊕_, _⊖_, _⊗_, neg, value, more, less, solve, fact, solve≤, tested-ex}
 use Rattle.evc_int.proofs.Division.{split-only}
-use Rattle.evc_int.proofs.Machine.{fit, rng}
+use Rattle.evc_int.proofs.Machine.{fit}
 use Rattle.evc_def.specs.Blocks.{Allowed}
-use Rattle.evc_clip.specs.Clip.{margin, clipComponent, placeOf}
+use Rattle.evc_clip.specs.Clip.{margin, placeOf, clipComponent}
 
 -- ---- a clipped component by its three cases, as facts of naturals
 

@@ -13,5 +13,6 @@ qpelPlace x y = record { x = record { 0 = x }; y = record { 0 = y } }
 abbrev pub givenPlace : EvcMv → QpelPlace
 givenPlace gmv = qpelPlace (gmv .x) (gmv .y)
 
+-- whether two places are one
 abbrev pub isSame : QpelPlace → QpelPlace → Bool
 isSame p q = eqZ (p .x .0) (q .x .0) && eqZ (p .y .0) (q .y .0)

@@ -1,5 +1,6 @@
 //! The calls of include/evc_inter.h, each over the function that does its work.
 ghost use mathlib.Core.Path.{_≡_};
+ghost use Rattle.evc_def.specs.Places.{givenPlace};
 ghost use Rattle.evc_clip.specs.Clip.{mvClip};
 ghost use Rattle.evc_avail.specs.Flags.{getAvailInter};
 ghost use Rattle.evc_direct.specs.declared.Pocs.{Pocs};
@@ -149,10 +150,10 @@ pub extern "C" fn evc_mc_plane(
 ) -> u32
     ensures { λ r. ⌜ (
         let t = planeType chroma in
-        r ≡ mcPlaneCode t «pic_w» «pic_h» gmv w h (now (plane .entry)) (now (pred .entry))) ⌝ }
+        r ≡ mcPlaneCode t «pic_w» «pic_h» (givenPlace gmv) w h (now (plane .entry)) (now (pred .entry))) ⌝ }
     ensures { λ _. ⌜ (
         let t = planeType chroma in
-        now (pred .exit) ≡ mcPlaneAfter t «pic_w» «pic_h» «ori_mv» gmv w h (now (plane .entry)) (now (pred .entry))) ⌝ }
+        now (pred .exit) ≡ mcPlaneAfter t «pic_w» «pic_h» «ori_mv» (givenPlace gmv) w h (now (plane .entry)) (now (pred .entry))) ⌝ }
 {
     evc_interp::evc_mc_plane(
         plane_type(chroma),

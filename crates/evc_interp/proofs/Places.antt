@@ -1,10 +1,9 @@
 -- The start of a path in machine numbers. Assumes nothing.
 use mathlib.Core.Bool.{Bool, true, false}
 use mathlib.Core.Path.{_≡_, sym, ap, ap₂, subst, _∙_}
-use Prim.Native.Nat.{_+_, _/_, _<_, _≤_}
+use Prim.Native.Nat.{_+_, _<_, _≤_}
 use native.Mathlib.Omega.{arith}
 use lib.IntN.{ℤ, pos, negsuc, _-ℤ_}
-use lib.Signed.{shrZ}
 use mir.Syntax.{w32}
 use mir.Val.{SFits, toZ, ofZ}
 use mir.Facts.{toZ-ofZ}
@@ -12,7 +11,7 @@ use Rattle.evc_int.specs.Whole.{_⁺, _⁻}
 use Rattle.evc_int.proofs.Whole.{of, nat, is--}
 use Rattle.evc_int.proofs.Expressions.{ !, _⊕_, _⊖_, solve, neg}
 use Rattle.evc_int.proofs.Machine.{fit}
-use Rattle.evc_filter.specs.Filter.{lead, phases}
+use Rattle.evc_filter.specs.Filter.{lead}
 use Rattle.evc_interp.specs.Prediction.{pelOf, startOf}
 use Rattle.evc_plane.specs.declared.PlaneType.{PlaneType}
 use Rattle.evc_plane.specs.declared.PlaneType.the-variants.{Y, UV}

@@ -1,6 +1,7 @@
 -- `evc_inter::evc_mc_plane` meets its contract: `evc_interp::evc_mc_plane` at the plane type of the flag. Assumes nothing.
 use mathlib.Core.Path.{ap, _∙_}
 use borrow.Author.Needs.{needs}
+use Rattle.evc_def.specs.Places.{givenPlace}
 use Rattle.evc_plane.specs.declared.PlaneType.{PlaneType}
 use Rattle.evc_interp.specs.Prediction.{mcPlaneCode, mcPlaneAfter}
 use Rattle.evc_inter.proofs.evc_mc_plane.Statement.{statement}
@@ -12,8 +13,8 @@ returns c =
     let q = p .before .before in
     let a = q .before .before .before .args in
     let e = q .plane-type .ensures in (
-      p .evc-mc-plane .ensures .0 ∙ ap (λ (k : PlaneType). mcPlaneCode k (a .pic-w) (a .pic-h) (a .gmv) (a .w) (a .h) (a .plane .now) (a .pred .now)) e,
-      p .evc-mc-plane .ensures .1 ∙ ap (λ (k : PlaneType). mcPlaneAfter k (a .pic-w) (a .pic-h) (a .ori-mv) (a .gmv) (a .w) (a .h) (a .plane .now) (a .pred .now)) e,
+      p .evc-mc-plane .ensures .0 ∙ ap (λ (t : PlaneType). mcPlaneCode t (a .pic-w) (a .pic-h) (givenPlace (a .gmv)) (a .w) (a .h) (a .plane .now) (a .pred .now)) e,
+      p .evc-mc-plane .ensures .1 ∙ ap (λ (t : PlaneType). mcPlaneAfter t (a .pic-w) (a .pic-h) (a .ori-mv) (givenPlace (a .gmv)) (a .w) (a .h) (a .plane .now) (a .pred .now)) e,
     )
 
 pub evc-mc-plane-spec : {M : Type 1} → statement M
