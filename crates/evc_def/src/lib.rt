@@ -10,7 +10,7 @@ ghost use mir.Val.{SFits};
 ghost use Rattle.evc_int.specs.Whole.{_modulo_, clip3};
 ghost use Rattle.evc_def.specs.Blocks.{isPictureSide, isBlockSide, badPicture, badBlock};
 ghost use Rattle.evc_def.specs.Codes.{firstOf, blockChecks};
-ghost use Rattle.evc_def.specs.Places.{givenPlace, isSame};
+ghost use Rattle.evc_def.specs.Places.{isSame};
 ghost use Rattle.evc_def.specs.Tables.{tblCuDimOffset, isBit, isCoded, isIntra};
 
 // ---- def.rs: numbers
@@ -217,30 +217,20 @@ impl Qpel {
     }
 }
 
+impl QpelPlace {
+    pub fn is_same(self, other: QpelPlace) -> bool
+        ensures { λ r. ⌜ r ≡ isSame self other ⌝ }
+    {
+        (self.x.0 == other.x.0) & (self.y.0 == other.y.0)
+    }
+}
+
 // ---- what a call takes
 
 #[repr(C)]
 pub struct EvcMv {
     pub x: i16,
     pub y: i16,
-}
-
-impl QpelPlace {
-    // A place as a call passes it, in the two numbers of a vector.
-    pub fn given(gmv: EvcMv) -> QpelPlace
-        ensures { λ r. ⌜ r ≡ givenPlace gmv ⌝ }
-    {
-        QpelPlace {
-            x: Qpel::new(gmv.x),
-            y: Qpel::new(gmv.y),
-        }
-    }
-
-    pub fn is_same(self, other: QpelPlace) -> bool
-        ensures { λ r. ⌜ r ≡ isSame self other ⌝ }
-    {
-        (self.x.0 == other.x.0) & (self.y.0 == other.y.0)
-    }
 }
 
 // A block of a picture, in luma samples.

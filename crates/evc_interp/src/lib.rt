@@ -542,7 +542,10 @@ pub fn evc_mc_plane(
     if evc_def::bad_picture(pic_w, pic_h) {
         return 1;
     }
-    let place = QpelPlace::given(gmv);
+    let place = QpelPlace {
+        x: Qpel::new(gmv.x),
+        y: Qpel::new(gmv.y),
+    };
     match t {
         PlaneType::Y => evc_mc_l(pic_w, pic_h, ori_mv, place, w, h, plane, pred),
         PlaneType::UV => evc_mc_c(pic_w, pic_h, ori_mv, place, w, h, plane, pred),

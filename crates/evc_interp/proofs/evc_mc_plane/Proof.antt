@@ -3,7 +3,13 @@ use mathlib.Core.Path.{_≡_, sym, ap₂, _∙_}
 use mathlib.Core.Bool.{false}
 use native.Mathlib.Omega.{arith}
 use borrow.Author.Needs.{needs}
+use mir.Facts.{toZ-ofZ}
+use mir.Syntax.{w16}
+use mir.Val.{SFits}
 use Rattle.evc_def.specs.Blocks.{badPicture}
+use Rattle.evc_def.specs.Places.{givenPlace}
+use Rattle.evc_def.specs.declared.EvcMv.{EvcMv}
+use Rattle.evc_def.specs.declared.Qpel.{Qpel}
 use Rattle.evc_def.specs.declared.QpelPlace.{QpelPlace}
 use Rattle.evc_plane.specs.declared.PlaneType.{PlaneType}
 use Rattle.evc_interp.specs.Prediction.{mcPlaneCode, mcPlaneAfter}
@@ -20,15 +26,30 @@ picture c = sym (c .before .bad-picture .ensures) ∙ c .if1 .left
 returns : tie.Need-returns
 returns c = untouched _ _ _ _ _ _ _ _ _ 1 (omega arith) (code-1 _ _ _ _ _ _ _ _ (sym (c .before .bad-picture .ensures) ∙ c .if1 .taken))
 
+abbrev checked : tie.After-new2 → tie.After-bad-picture
+checked g = g .before .before .before .before .before
+
+fits : (s : tie.Start) → SFits w16 (s .args .gmv .x) × SFits w16 (s .args .gmv .y)
+fits s = (search needs, search needs)
+
+made : (gmv : EvcMv) (x y : Qpel) → x .0 ≡ gmv .x → y .0 ≡ gmv .y → record { x = x; y = y } ≡ givenPlace gmv
+made gmv x y p q = rw (p, q)
+
+-- the place that is handed on is the one that the definition names
+place : (g : tie.After-new2) → record { x = g .before .before .new .result; y = g .new2 .result } ≡ givenPlace (start (checked g) .args .gmv)
+place g =
+    let f = fits (start (checked g)) in
+    made _ _ _ (g .before .before .new .ensures ∙ toZ-ofZ (f .0)) (g .new2 .ensures ∙ toZ-ofZ (f .1))
+
 returns-2 : tie.Need-returns-2
 returns-2 c =
     let q = c .before .before in
     let t = q .before .before in
     let g = t .before .before in
-    let a = start (g .before .before) .args in
+    let a = start (checked g) .args in
     let e = sym (t .enum-told .given .1) in (
-      q .evc-mc-l .ensures .0 ∙ ap₂ (λ (t : PlaneType) (p : QpelPlace). mcPlaneCode t (a .pic-w) (a .pic-h) p (a .w) (a .h) (a .plane .now) (a .pred .now)) e (g .given .ensures),
-      q .evc-mc-l .ensures .1 ∙ ap₂ (λ (t : PlaneType) (p : QpelPlace). mcPlaneAfter t (a .pic-w) (a .pic-h) (a .ori-mv) p (a .w) (a .h) (a .plane .now) (a .pred .now)) e (g .given .ensures),
+      q .evc-mc-l .ensures .0 ∙ ap₂ (λ (t : PlaneType) (p : QpelPlace). mcPlaneCode t (a .pic-w) (a .pic-h) p (a .w) (a .h) (a .plane .now) (a .pred .now)) e (place g),
+      q .evc-mc-l .ensures .1 ∙ ap₂ (λ (t : PlaneType) (p : QpelPlace). mcPlaneAfter t (a .pic-w) (a .pic-h) (a .ori-mv) p (a .w) (a .h) (a .plane .now) (a .pred .now)) e (place g),
     )
 
 returns-3 : tie.Need-returns-3
@@ -36,10 +57,10 @@ returns-3 c =
     let q = c .before .before in
     let t = q .before .before in
     let g = t .before .before in
-    let a = start (g .before .before) .args in
+    let a = start (checked g) .args in
     let e = sym (t .enum-told2 .given .1) in (
-      q .evc-mc-c .ensures .0 ∙ ap₂ (λ (t : PlaneType) (p : QpelPlace). mcPlaneCode t (a .pic-w) (a .pic-h) p (a .w) (a .h) (a .plane .now) (a .pred .now)) e (g .given .ensures),
-      q .evc-mc-c .ensures .1 ∙ ap₂ (λ (t : PlaneType) (p : QpelPlace). mcPlaneAfter t (a .pic-w) (a .pic-h) (a .ori-mv) p (a .w) (a .h) (a .plane .now) (a .pred .now)) e (g .given .ensures),
+      q .evc-mc-c .ensures .0 ∙ ap₂ (λ (t : PlaneType) (p : QpelPlace). mcPlaneCode t (a .pic-w) (a .pic-h) p (a .w) (a .h) (a .plane .now) (a .pred .now)) e (place g),
+      q .evc-mc-c .ensures .1 ∙ ap₂ (λ (t : PlaneType) (p : QpelPlace). mcPlaneAfter t (a .pic-w) (a .pic-h) (a .ori-mv) p (a .w) (a .h) (a .plane .now) (a .pred .now)) e (place g),
     )
 
 pub evc-mc-plane-spec : {M : Type 1} → statement M
@@ -49,10 +70,11 @@ evc-mc-plane-spec =
     (λ c κs. search needs)
     returns
     (λ c κs. search needs)
+    (λ c κs. search needs)
     (λ c. search needs)
-    (λ c κs. picture (c .before .before .before .before))
+    (λ c κs. picture (c .before .before .before .before .before .before .before))
     (λ c. search needs)
-    (λ c κs. picture (c .before .before .before .before))
+    (λ c κs. picture (c .before .before .before .before .before .before .before))
     (λ c. search needs)
     returns-2
     (λ c. search needs)
