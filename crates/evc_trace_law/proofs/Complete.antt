@@ -42,10 +42,7 @@ form-not-11 s l z = not-11 _ refl (sym (passed 11 _ _ (le-ltb _ _ l)) ∙ z)
 
 vectors-not-11 : (p : Pocs) (mv : EvcMv) → directVectors p mv .code ≡ 11 → ⊥
 unfolding directVectors
-vectors-not-11 p mv e = other 0 refl e
-  where
-    other : (n : ℕ) → n ≡ 0 → n ≡ 11 → ⊥
-    other n z f = omega arith
+vectors-not-11 p mv e = absurd (let z : 0 ≡ 11 = e in omega arith)
 
 direct-not-11 : (b : EvcBlock) (p : Pocs) (has : Bool) (col : List ℤ) → getMvDir b p has col .code ≡ 11 → ⊥
 unfolding getMvDir
