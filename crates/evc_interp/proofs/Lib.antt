@@ -1,4 +1,3 @@
 pub mod Codes
-pub mod Paths
 pub mod Places
 pub mod Windows

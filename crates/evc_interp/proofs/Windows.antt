@@ -33,7 +33,8 @@ use Rattle.evc_plane.proofs.Sizes.{sizes}
 use Rattle.evc_filter.specs.Filter.{phases, lead, reach, interpolated, interpolatedTwice}
 use Rattle.evc_lanes.specs.Code.{isRowWidth}
 use Rattle.evc_interp.specs.Prediction.{phaseOf, pelOf, isFiltered, startOf, windowOf, sampleBy, predicted, isSide, windowExceeds, mcPlaneCode}
-use Rattle.evc_interp.specs.Code.{Within, positionOf, Readable, sampleFrom}
+use Rattle.evc_paths.specs.Inner.{Within}
+use Rattle.evc_interp.specs.Code.{positionOf, Readable, sampleFrom}
 use Rattle.evc_interp.specs.declared.Position.{Position}
 
 -- ---- a block's side

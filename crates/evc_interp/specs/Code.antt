@@ -3,19 +3,16 @@ use mathlib.Core.Bool.{Bool, true, cond}
 use mathlib.Core.List.{List}
 use mathlib.Core.Path.{_≡_}
 use Prim.Native.Nat.{ℕ, _+_, _*_, _<_, _≤_}
-use lib.ListN.{length, getD}
+use lib.ListN.{length}
 use Rattle.evc_def.specs.declared.EvcMv.{EvcMv}
 use Rattle.evc_def.specs.declared.QpelPlace.{QpelPlace}
 use Rattle.evc_plane.specs.Planes.{sideOf, strideOf}
 use Rattle.evc_plane.specs.declared.PlaneType.{PlaneType}
 use Rattle.evc_filter.specs.Filter.{phases, reach}
 use Rattle.evc_lanes.specs.Code.{isRowWidth}
+use Rattle.evc_paths.specs.Inner.{Within}
 use Rattle.evc_interp.specs.Prediction.{phaseOf, isFiltered, windowOf, sampleBy}
 use Rattle.evc_interp.specs.declared.Position.{Position}
-
--- no sample of a window is above 1023
-abbrev pub Within : List ℕ → ℕ → ℕ → ℕ → ℕ → Type 0
-Within s at stride n h = (y x : ℕ) → y < h → x < n → getD s (at + y * stride + x) 0 ≤ 1023
 
 -- where a block is predicted from, and how, as the code hands it on
 unfoldable pub positionOf : PlaneType → ℕ → ℕ → EvcMv → QpelPlace → Position

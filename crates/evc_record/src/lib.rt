@@ -29,7 +29,7 @@ fn copy_block(s: &[u16], at: usize, w: usize, h: usize, d: &mut [u16], to: usize
     ensures { λ _. ⌜ now (d .exit) ≡ withBlock (now (d .entry)) to stride w h (λ (y x : ℕ). getD (now (s .entry)) (at + y * w + x) 0) ⌝ }
 {
     for y in 0..h {
-        evc_interp::copy_row(evc_plane::row_of(s, w, at, y), w, d, to + y * stride);
+        evc_paths::copy_row(evc_plane::row_of(s, w, at, y), w, d, to + y * stride);
     }
 }
 

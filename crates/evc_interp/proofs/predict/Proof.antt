@@ -9,7 +9,7 @@ use Rattle.evc_int.specs.Lists.{withBlock}
 use Rattle.evc_int.proofs.Bools.{both-true, one-true, none-true}
 use Rattle.evc_filter.specs.Filter.{reach}
 use Rattle.evc_interp.specs.Prediction.{sampleBy}
-use Rattle.evc_interp.specs.Code.{Within}
+use Rattle.evc_paths.specs.Inner.{Within}
 use Rattle.evc_interp.proofs.Windows.{one-path}
 use Rattle.evc_interp.proofs.predict.Statement.{statement}
 use Rattle.evc_interp.proofs.predict.Tie as tie

@@ -1,4 +1,4 @@
--- `evc_interp::copy_row` meets its contract. The invariant: the first x samples are copied, x a multiple of 8. Assumes nothing.
+-- `evc_paths::copy_row` meets its contract. The invariant: the first x samples are copied, x a multiple of 8. Assumes nothing.
 use Prim.Native.Nat.{ℕ, _+_, _-_, _*_, _%_, _<_, _≤_}
 use mathlib.Core.Path.{_≡_, refl, _∙_}
 use native.Mathlib.Omega.{arith}
@@ -6,9 +6,9 @@ use lib.ListN.{length, getD}
 use Rattle.evc_int.specs.Lists.{withRow}
 use Rattle.evc_int.proofs.Lists.{row-done}
 use Rattle.evc_lanes.proofs.Lanes.{eights}
-use Rattle.evc_interp.proofs.Paths.{copied, copied-more}
-use Rattle.evc_interp.proofs.copy_row.Statement.{statement}
-use Rattle.evc_interp.proofs.copy_row.Tie as tie
+use Rattle.evc_paths.proofs.Paths.{copied, copied-more}
+use Rattle.evc_paths.proofs.copy_row.Statement.{statement}
+use Rattle.evc_paths.proofs.copy_row.Tie as tie
 
 abbrev Inv-loop : tie.InvT-loop
 Inv-loop s n d₀ to x₀ d x = (x ≤ n) × (x % 8 ≡ 0) × (length d ≡ length d₀) × (d ≡ withRow d₀ to x (λ (i : ℕ). getD s i 0))

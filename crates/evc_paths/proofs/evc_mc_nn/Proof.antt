@@ -1,10 +1,10 @@
--- `evc_interp::evc_mc_nn` meets its contract: the first stage fits its array. Assumes nothing.
+-- `evc_paths::evc_mc_nn` meets its contract: the first stage fits its array. Assumes nothing.
 use native.Mathlib.Omega.{arith}
 use borrow.Author.Needs.{needs}
 use Rattle.evc_plane.specs.declared.PlaneType.the-variants.{Y, UV}
-use Rattle.evc_interp.proofs.Paths.{stage-fits, low-fits}
-use Rattle.evc_interp.proofs.evc_mc_nn.Statement.{statement}
-use Rattle.evc_interp.proofs.evc_mc_nn.Tie as tie
+use Rattle.evc_paths.proofs.Paths.{stage-fits, low-fits}
+use Rattle.evc_paths.proofs.evc_mc_nn.Statement.{statement}
+use Rattle.evc_paths.proofs.evc_mc_nn.Tie as tie
 
 groups-requires : tie.Need-groups-requires
 groups-requires c κs =

@@ -1,4 +1,4 @@
--- `evc_interp::groups` meets its contract. The invariant: the first cg columns are written, cg a multiple of 8. Assumes nothing.
+-- `evc_paths::groups` meets its contract. The invariant: the first cg columns are written, cg a multiple of 8. Assumes nothing.
 use Prim.Native.Nat.{ℕ, _+_, _-_, _*_, _%_, _<_, _≤_}
 use mathlib.Core.Path.{_≡_, refl, sym, _∙_}
 use native.Mathlib.Omega.{arith}
@@ -6,9 +6,9 @@ use lib.ListN.{length}
 use Rattle.evc_int.specs.Lists.{withBlock}
 use Rattle.evc_int.proofs.Lists.{columns-none, columns-done}
 use Rattle.evc_filter.specs.Filter.{reach, interpolatedTwice}
-use Rattle.evc_interp.proofs.Paths.{part-within, group-step, first-row, full}
-use Rattle.evc_interp.proofs.groups.Statement.{statement}
-use Rattle.evc_interp.proofs.groups.Tie as tie
+use Rattle.evc_paths.proofs.Paths.{part-within, group-step, first-row, full}
+use Rattle.evc_paths.proofs.groups.Statement.{statement}
+use Rattle.evc_paths.proofs.groups.Tie as tie
 
 abbrev Inv-loop : tie.InvT-loop
 Inv-loop t s at stride w h dx dy m₀ pred₀ cg₀ m pred cg =

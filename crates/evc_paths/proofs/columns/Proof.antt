@@ -1,13 +1,13 @@
--- `evc_interp::columns` meets its contract. Assumes nothing.
+-- `evc_paths::columns` meets its contract. Assumes nothing.
 use mathlib.Core.Path.{_∙_}
 use Prim.Native.Nat.{_*_, _<_, _≤_}
 use native.Mathlib.Nat.{mul-le-mul}
 use native.Mathlib.Omega.{arith}
 use mathlib.Core.Logic.{⊎-elim}
 use borrow.Author.Needs.{needs}
-use Rattle.evc_interp.proofs.Paths.{Lanes, lanes, lanes-rows, lanes-room, first-asks, second-asks, second-done}
-use Rattle.evc_interp.proofs.columns.Statement.{statement}
-use Rattle.evc_interp.proofs.columns.Tie as tie
+use Rattle.evc_paths.proofs.Paths.{Lanes, lanes, lanes-rows, lanes-room, first-asks, second-asks, second-done}
+use Rattle.evc_paths.proofs.columns.Statement.{statement}
+use Rattle.evc_paths.proofs.columns.Tie as tie
 
 count : (s : tie.Start) → s .args .h * s .args .n ≤ 512
 count s = let p = s .pre .1 .0 in mul-le-mul (p .3) (p .1)

@@ -23,7 +23,7 @@ use Rattle.evc_plane.specs.declared.PlaneType.{PlaneType}
 use Rattle.evc_plane.specs.declared.PlaneType.the-variants.{Y, UV}
 use Rattle.evc_filter.specs.declared.Offsets.{Offsets}
 use Rattle.evc_filter.specs.declared.Taps.{Taps}
-use Rattle.evc_interp.specs.Code.{Within}
+use Rattle.evc_paths.specs.Inner.{Within}
 
 abbrev pub Near : ℕ → PlaneType → List ℕ → ℕ → ℕ → Type 0
 Near most k s at step = (j : ℕ) → j ≤ reach k → getD s (at + j * step) 0 ≤ most

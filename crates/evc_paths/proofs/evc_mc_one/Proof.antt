@@ -1,4 +1,4 @@
--- `evc_interp::evc_mc_one` meets its contract. The invariant: the first cg columns are written, cg a multiple of 8. Assumes nothing.
+-- `evc_paths::evc_mc_one` meets its contract. The invariant: the first cg columns are written, cg a multiple of 8. Assumes nothing.
 use Prim.Native.Nat.{ℕ, _+_, _-_, _*_, _%_, _<_, _≤_}
 use mathlib.Core.Bool.{Bool, true, false, cond}
 use mathlib.Core.Path.{_≡_, refl, sym, ap, _∙_}
@@ -12,9 +12,9 @@ use Rattle.evc_filter.specs.Filter.{interpolated}
 use Rattle.evc_filter.specs.Code.{singleAt, offsetsOf}
 use Rattle.evc_blocks.specs.Code.{Rows}
 use Rattle.evc_blocks.proofs.Rows.{as-wide}
-use Rattle.evc_interp.proofs.Paths.{stepOf, single-asks, single-gives, group-step, full}
-use Rattle.evc_interp.proofs.evc_mc_one.Statement.{statement}
-use Rattle.evc_interp.proofs.evc_mc_one.Tie as tie
+use Rattle.evc_paths.proofs.Paths.{stepOf, single-asks, single-gives, group-step, full}
+use Rattle.evc_paths.proofs.evc_mc_one.Statement.{statement}
+use Rattle.evc_paths.proofs.evc_mc_one.Tie as tie
 
 abbrev Inv-loop : tie.InvT-loop
 Inv-loop s at stride across w h phase pred₀ o taps cg₀ pred cg =

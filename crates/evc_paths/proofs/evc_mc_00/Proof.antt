@@ -1,13 +1,13 @@
--- `evc_interp::evc_mc_00` meets its contract. The invariant: the first y rows are written. Assumes nothing.
+-- `evc_paths::evc_mc_00` meets its contract. The invariant: the first y rows are written. Assumes nothing.
 use Prim.Native.Nat.{ℕ, _+_, _-_, _*_, _<_, _≤_}
 use mathlib.Core.Path.{_≡_, refl, _∙_}
 use native.Mathlib.Omega.{arith}
 use lib.ListN.{length, length-drop, getD}
 use Rattle.evc_int.specs.Lists.{withBlock}
 use Rattle.evc_int.proofs.Lists.{row-fits, block-step, block-done}
-use Rattle.evc_interp.proofs.Paths.{row-copied}
-use Rattle.evc_interp.proofs.evc_mc_00.Statement.{statement}
-use Rattle.evc_interp.proofs.evc_mc_00.Tie as tie
+use Rattle.evc_paths.proofs.Paths.{row-copied}
+use Rattle.evc_paths.proofs.evc_mc_00.Statement.{statement}
+use Rattle.evc_paths.proofs.evc_mc_00.Tie as tie
 
 abbrev Inv-loop : tie.InvT-loop
 Inv-loop s at stride w h pred₀ y₀ pred y = (y ≤ h) × (length pred ≡ length pred₀) × (pred ≡ withBlock pred₀ 0 w w y (λ (i x : ℕ). getD s (at + i * stride + x) 0))
