@@ -1,19 +1,19 @@
 -- The bridge: what the code computes in 16 bits is the filter of the definition, over ℤ. The tap sum is split once for all tap counts. Assumes nothing.
 use mathlib.Core.List.{List, [], _∷_}
 use mathlib.Core.Path.{_≡_, refl, sym, ap, _∙_}
-use Prim.Native.Nat.{ℕ, zero, suc, _+_, _-_, _*_, _/_, _%_, _<_, _≤_, min, suc-le-suc, zero-le}
+use Prim.Native.Nat.{ℕ, suc, _+_, _-_, _*_, _/_, _%_, _<_, _≤_, min, suc-le-suc, zero-le}
 use native.Mathlib.Omega.{arith}
-use native.Mathlib.Nat.{mul-le-mul, div-add-mod, le-refl}
+use native.Mathlib.Nat.{mul-le-mul, le-refl}
 use lib.Dec.{lit<}
-use lib.IntN.{ℤ, pos, _+ℤ_, _*ℤ_}
+use lib.IntN.{ℤ, pos, _+ℤ_}
 use lib.ListN.{length, getD}
 use lib.Signed.{shrZ}
 use Rattle.evc_int.proofs.Whole.{Is, of, nat, is-by, is-+, is-*, parts}
 use Rattle.evc_int.proofs.Division.{is-shr}
 use Rattle.evc_plane.specs.declared.PlaneType.{PlaneType}
 use Rattle.evc_plane.specs.declared.PlaneType.the-variants.{Y, UV}
-use Rattle.evc_filter.specs.Filter.{taps, phases, reach, tapSum, clipSample, singleStage, firstStage, secondStage, along, interpolated, rowStage, interpolatedTwice}
-use Rattle.evc_filter.specs.Code.{tapsOf, Small, firstSum, wholeSum, secondSum, finished, offsetsOf, Ordered, Bounded, firstAt, singleAt, secondAt}
+use Rattle.evc_filter.specs.Filter.{taps, phases, reach, tapSum, clipSample, firstStage, along, interpolated, rowStage, interpolatedTwice}
+use Rattle.evc_filter.specs.Code.{tapsOf, Small, secondSum, finished, offsetsOf, Ordered, Bounded, firstAt, singleAt, secondAt}
 use Rattle.evc_filter.specs.declared.Offsets.{Offsets}
 use Rattle.evc_filter.specs.declared.Taps.{Taps}
 use Rattle.evc_filter.proofs.Tables.{plus, minus, pOf, qOf, xOf, yOf, shape}
@@ -39,18 +39,18 @@ offsets-ordered UV step = omega arith
 abbrev at-step : List ℕ → ℕ → ℕ → ℕ → ℕ
 at-step s at step j = getD s (at + j * step) 0
 
-record Under (t : PlaneType) (s : List ℕ) (at step : ℕ) : Type 0 where
+record Placed (t : PlaneType) (s : List ℕ) (at step : ℕ) : Type 0 where
   p-is : pOf t (at-step s at step) ≡ getD s at 0 + getD s (at + offsetsOf t step .p1) 0
   q-is : qOf t (at-step s at step) ≡ getD s (at + offsetsOf t step .q0) 0 + getD s (at + offsetsOf t step .q1) 0
   x-is : xOf t (at-step s at step) ≡ getD s (at + offsetsOf t step .x) 0
   y-is : yOf t (at-step s at step) ≡ getD s (at + offsetsOf t step .y) 0
 
-under : (t : PlaneType) (s : List ℕ) (at step : ℕ) → Under t s at step
-under Y s at step =
+placed : (t : PlaneType) (s : List ℕ) (at step : ℕ) → Placed t s at step
+placed Y s at step =
     let z : getD s (at + 0 * step) 0 ≡ getD s at 0 = ap (λ (i : ℕ). getD s i 0) (omega arith) in
     let o : getD s (at + 1 * step) 0 ≡ getD s (at + step) 0 = ap (λ (i : ℕ). getD s i 0) (omega arith) in
     record { p-is = omega arith; q-is = omega arith; x-is = refl; y-is = refl }
-under UV s at step =
+placed UV s at step =
     let z : getD s (at + 0 * step) 0 ≡ getD s at 0 = ap (λ (i : ℕ). getD s i 0) (omega arith) in
     let z′ : getD s (at + 0) 0 ≡ getD s at 0 = ap (λ (i : ℕ). getD s i 0) (omega arith) in
     let o : getD s (at + 1 * step) 0 ≡ getD s (at + step) 0 = ap (λ (i : ℕ). getD s i 0) (omega arith) in
@@ -65,7 +65,7 @@ module _ (t : PlaneType) (phase : ℕ) (l : phase < phases t) (s : List ℕ) (at
       (tapsOf t phase .b * (getD s (at + offsetsOf t step .q0) 0 + getD s (at + offsetsOf t step .q1) 0) + 64 * bias)
   sum-is f bias h =
       let sh = shape t phase l in
-      let u = under t s at step in
+      let u = placed t s at step in
       let b = balance (taps t phase) f (at-step s at step) bias (λ j m. h j (let c = sh .count in omega arith)) in
       is-by b
       (omega (

@@ -31,6 +31,7 @@ tblMcCCoeff =
     ∷ (− 2 ∷ pos 10 ∷ pos 58 ∷ − 2 ∷ [])
     ∷ []
 
+-- by the plane: Y is luma, UV chroma
 abbrev pub table : PlaneType → List (List ℤ)
 table Y = tblMcLCoeff
 table UV = tblMcCCoeff
