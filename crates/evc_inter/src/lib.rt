@@ -9,7 +9,7 @@ ghost use Rattle.evc_motion.specs.Candidates.{getMotion};
 ghost use Rattle.evc_pad.specs.Padding.{padCode, padAfter};
 ghost use Rattle.evc_interp.specs.Prediction.{mcPlaneCode, mcPlaneAfter};
 ghost use Rattle.evc_mc.specs.Block.{refPicList, mc2Code, mc2First, mc2Second};
-ghost use Rattle.evc_inter.specs.Code.{blank};
+ghost use Rattle.evc_inter.specs.Code.{zeroCandidates};
 ghost use Rattle.evc_inter.specs.Kinds.{planeType};
 ghost use Rattle.evc_camera.specs.Camera.{cameraMotion};
 ghost use Rattle.evc_trace.specs.declared.TraceHeader.{TraceHeader};
@@ -85,7 +85,7 @@ pub extern "C" fn evc_mv_clip(block: EvcBlock, mv: EvcMv) -> EvcClipped
     evc_clip::mv_clip(block, mv)
 }
 
-// The candidates over a blank record: what the lent one is set to.
+// The candidates over a record of zeros: what the lent one is set to.
 fn found_motion(
     block: EvcBlock,
     lidx: u32,
@@ -94,17 +94,17 @@ fn found_motion(
     has_col: bool,
     col_mv: &[i16],
 ) -> Motion
-    ensures { λ r. ⌜ r ≡ getMotion block lidx avail (now («map_mv» .entry)) «has_col» (now («col_mv» .entry)) blank ⌝ }
+    ensures { λ r. ⌜ r ≡ getMotion block lidx avail (now («map_mv» .entry)) «has_col» (now («col_mv» .entry)) zeroCandidates ⌝ }
 {
-    let zero = EvcMv { x: 0, y: 0 };
-    let blank = EvcCandidates {
-        left: zero,
-        up: zero,
-        up_right: zero,
-        collocated: zero,
+    let mv = EvcMv { x: 0, y: 0 };
+    let zeros = EvcCandidates {
+        left: mv,
+        up: mv,
+        up_right: mv,
+        collocated: mv,
         refi: [0; 4],
     };
-    evc_motion::get_motion(block, lidx, avail, map_mv, has_col, col_mv, blank)
+    evc_motion::get_motion(block, lidx, avail, map_mv, has_col, col_mv, zeros)
 }
 
 // The four candidates of a list, into the record lent. After a refusal nothing is stored.

@@ -52,7 +52,7 @@ use Rattle.evc_def.specs.declared.EvcMv.{EvcMv}
 use Rattle.evc_motion.specs.Candidates.{getMotion, candidates}
 use Rattle.evc_motion.specs.declared.EvcCandidates.{EvcCandidates}
 use Rattle.evc_motion.specs.declared.Motion.{Motion}
-use Rattle.evc_inter.specs.Code.{blank}
+use Rattle.evc_inter.specs.Code.{zeroCandidates}
 use Rattle.evc_def.proofs.EvcBlock as B
 use Rattle.evc_def.proofs.EvcBlock.Laws as B′
 use Rattle.evc_def.proofs.EvcMv as Mv
@@ -93,12 +93,12 @@ abbrev stored : EvcCandidates → EvcMv → EvcCandidates
 stored f v = record { left = f .left; up = f .up; «up_right» = f .«up_right»; collocated = v; refi = pos 0 ∷ pos 0 ∷ pos 0 ∷ pos 0 ∷ [] }
 
 module _ (block : EvcBlock) (lidx avail : ℕ) (map : List ℤ) (has : Bool) (col : List ℤ) (h : EvcCandidates) where
-  -- the definition, at the record lent and at a blank one
+  -- the definition, at the record lent and at one of zeros
   abbrev wanted : Motion
   wanted = getMotion block lidx avail map has col h
 
   abbrev found : Motion
-  found = getMotion block lidx avail map has col blank
+  found = getMotion block lidx avail map has col zeroCandidates
 
   same-code : found .code ≡ wanted .code
   unfolding getMotion
@@ -116,9 +116,9 @@ module _ (block : EvcBlock) (lidx avail : ℕ) (map : List ℤ) (has : Bool) (co
     code-is : 0 ≡ wanted .code
     code-is = sym (eqb→eq (r .code) 0 accepted) ∙ code-of r e
 
-    cand-is : r .cand ≡ candidates block lidx avail map has col blank
+    cand-is : r .cand ≡ candidates block lidx avail map has col zeroCandidates
     unfolding getMotion
-    cand-is = ap (λ (m : Motion). m .cand) e ∙ ap (λ (k : ℕ). cond (eqb k 0) (candidates block lidx avail map has col blank) blank) (sym (ap (λ (m : Motion). m .code) e)) ∙ chosen (eqb (r .code) 0) accepted _ _
+    cand-is = ap (λ (m : Motion). m .cand) e ∙ ap (λ (k : ℕ). cond (eqb k 0) (candidates block lidx avail map has col zeroCandidates) zeroCandidates) (sym (ap (λ (m : Motion). m .code) e)) ∙ chosen (eqb (r .code) 0) accepted _ _
 
     wanted-is : candidates block lidx avail map has col h ≡ wanted .cand
     unfolding getMotion
