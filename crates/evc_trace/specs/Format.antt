@@ -1,16 +1,16 @@
 -- Document 02, W1: the bytes of a trace, and the two calls that write them. The bytes n of an order count are a parameter, and with them the lengths.
-use mathlib.Core.Bool.{Bool, not, _&&_, _||_}
+use mathlib.Core.Bool.{Bool, not, cond, _&&_, _||_}
 use mathlib.Core.List.{List, [], _∷_, _++_}
 use Prim.Native.Nat.{ℕ, _+_, _*_}
 use lib.Dec.{ltb, leb, eqb}
 use lib.IntN.{pos}
-use lib.ListN.{length, getD}
+use lib.ListN.{length, getD, drop}
 use Rattle.evc_int.specs.Whole.{eqZ, _modulo_}
 use Rattle.evc_int.specs.LowBits.{signed16}
+use Rattle.evc_bytes.specs.Bytes.{bytesOf, numberAt}
 use Rattle.evc_def.specs.Blocks.{badPicture}
 use Rattle.evc_def.specs.Codes.{Check, _when_, firstOf}
 use Rattle.evc_def.specs.declared.EvcMv.{EvcMv}
-use Rattle.evc_trace.specs.Bytes.{bytesOf, numberAt, overwrittenBy}
 use Rattle.evc_trace.specs.declared.TraceHeader.{TraceHeader}
 use Rattle.evc_trace.specs.declared.EvcTraceRecord.{EvcTraceRecord}
 
@@ -88,6 +88,14 @@ isWellFormed r =
     && (not (eqb (r .kind) 3) || isZeroMv (r .mv0) && isZeroMv (r .mv1))
 
 -- ---- the writers: "The writer has one call for the header and one for a record; they refuse 1, 4 and, for a record, 12, in that order."
+
+-- a buffer that begins with these bytes: the rest of it is kept
+unfoldable pub overwritten : List ℕ → List ℕ → List ℕ
+overwritten bytes d = bytes ++ drop (length bytes) d
+
+-- after a call with this number: overwritten, and as it was where the call refuses
+unfoldable pub overwrittenBy : ℕ → List ℕ → List ℕ → List ℕ
+overwrittenBy code bytes d = cond (eqb code 0) (overwritten bytes d) d
 
 unfoldable pub writeHeaderCode : ℕ → ℕ → List ℕ → ℕ
 writeHeaderCode W H out = firstOf (1 when badPicture W H ∷ 4 when ltb (length out) (headerLen countLen) ∷ [])

@@ -1,14 +1,12 @@
 ghost use mathlib.Core.Path.{_≡_};
 ghost use mathlib.Core.Bool.{false};
-ghost use mathlib.Core.List.{[], _∷_, _++_};
-ghost use Prim.Native.Nat.{ℕ, _+_, _≤_, _<_};
+ghost use mathlib.Core.List.{_++_};
+ghost use Prim.Native.Nat.{_+_, _≤_};
 ghost use lib.ListN.{length};
-ghost use Rattle.evc_int.specs.Whole.{_modulo_};
-ghost use Rattle.evc_int.specs.LowBits.{signed16};
 ghost use Rattle.evc_def.specs.Blocks.{badPicture};
-ghost use Rattle.evc_trace.specs.Bytes.{bytesOf, numberAt, overwritten};
-ghost use Rattle.evc_trace.specs.Code.{written};
-ghost use Rattle.evc_trace.specs.Format.{version, countLen, headerLen, mark, headerBytes, isTrace, headerOf, writeHeaderCode, writeHeaderAfter};
+ghost use Rattle.evc_bytes.specs.Bytes.{bytesOf};
+ghost use Rattle.evc_bytes.specs.Code.{written};
+ghost use Rattle.evc_trace.specs.Format.{version, countLen, headerLen, mark, headerBytes, isTrace, headerOf, overwritten, writeHeaderCode, writeHeaderAfter};
 ghost use Rattle.evc_trace.specs.Format.{recordLen, mvOf, mvBytes, recordBytes, recordOf, isZeroMv, isWellFormed, writeRecordCode, writeRecordAfter};
 ghost use Rattle.evc_trace.specs.declared.TraceHeader.{TraceHeader};
 use evc_def::EvcMv;
@@ -41,68 +39,22 @@ pub struct EvcTraceRecord {
     pub poc1: u16,
 }
 
-// ---- numbers
-
-fn put8(out: &mut [u8], at: usize, byte: u8)
-    requires { ⌜ at < length (now out) ⌝ }
-    ensures { λ _. ⌜ now (out .exit) ≡ written (now (out .entry)) at (byte ∷ []) ⌝ }
-{
-    out[at] = byte;
-}
-
-fn put16(out: &mut [u8], at: usize, v: u16)
-    requires { ⌜ at + 2 ≤ length (now out) ⌝ }
-    ensures { λ _. ⌜ now (out .exit) ≡ written (now (out .entry)) at (bytesOf 2 v) ⌝ }
-{
-    put8(out, at, (v % 256) as u8);
-    put8(out, at + 1, (v / 256 % 256) as u8);
-}
+// ---- fields
 
 fn put_pair(out: &mut [u8], at: usize, a: u16, b: u16)
     requires { ⌜ at + 4 ≤ length (now out) ⌝ }
     ensures { λ _. ⌜ now (out .exit) ≡ written (now (out .entry)) at (bytesOf 2 a ++ bytesOf 2 b) ⌝ }
 {
-    put16(out, at, a);
-    put16(out, at + 2, b);
-}
-
-// The sixteen bits of a signed number.
-fn bits16(v: i16) -> u16
-    ensures { λ r. ⌜ r ≡ v modulo 65536 ⌝ }
-{
-    if v < 0 {
-        return (v as i32 + 65536) as u16;
-    }
-    v as u16
+    evc_bytes::put_u16(out, at, a);
+    evc_bytes::put_u16(out, at + 2, b);
 }
 
 fn put_mv(out: &mut [u8], at: usize, mv: EvcMv)
     requires { ⌜ at + 4 ≤ length (now out) ⌝ }
     ensures { λ _. ⌜ now (out .exit) ≡ written (now (out .entry)) at (mvBytes mv) ⌝ }
 {
-    put_pair(out, at, bits16(mv.x), bits16(mv.y));
-}
-
-fn wide(b: u8) -> u16
-    ensures { λ r. ⌜ (r ≡ b) × (r < 256) ⌝ }
-{
-    b as u16
-}
-
-fn number16(s: &[u8], at: usize) -> u16
-    requires { ⌜ at + 2 ≤ length (now s) ⌝ }
-    ensures { λ r. ⌜ r ≡ numberAt 2 (now (s .entry)) at ⌝ }
-{
-    let low = wide(s[at]);
-    let high = wide(s[at + 1]);
-    low + 256 * high
-}
-
-fn component(s: &[u8], at: usize) -> i16
-    requires { ⌜ at + 2 ≤ length (now s) ⌝ }
-    ensures { λ r. ⌜ r ≡ signed16 (numberAt 2 (now (s .entry)) at) ⌝ }
-{
-    evc_int::low16(number16(s, at) as i32)
+    evc_bytes::put_i16(out, at, mv.x);
+    evc_bytes::put_i16(out, at + 2, mv.y);
 }
 
 fn mv_at(s: &[u8], at: usize) -> EvcMv
@@ -110,8 +62,8 @@ fn mv_at(s: &[u8], at: usize) -> EvcMv
     ensures { λ r. ⌜ r ≡ mvOf (now (s .entry)) at ⌝ }
 {
     EvcMv {
-        x: component(s, at),
-        y: component(s, at + 2),
+        x: evc_bytes::i16_at(s, at),
+        y: evc_bytes::i16_at(s, at + 2),
     }
 }
 
@@ -140,7 +92,7 @@ pub fn is_trace(s: &[u8]) -> bool
     requires { ⌜ headerLen countLen ≤ length (now s) ⌝ }
     ensures { λ r. ⌜ r ≡ isTrace version (now (s .entry)) ⌝ }
 {
-    let version = number16(s, 3);
+    let version = evc_bytes::u16_at(s, 3);
     (s[0] == b'I') & (s[1] == b'P') & (s[2] == b'T') & (version == VERSION)
 }
 
@@ -148,10 +100,10 @@ pub fn read_header(s: &[u8]) -> TraceHeader
     requires { ⌜ headerLen countLen ≤ length (now s) ⌝ }
     ensures { λ r. ⌜ r ≡ headerOf countLen (now (s .entry)) ⌝ }
 {
-    let pic_w = number16(s, 5);
-    let pic_h = number16(s, 7);
-    let poc = number16(s, 9);
-    let list_poc0 = number16(s, 11);
+    let pic_w = evc_bytes::u16_at(s, 5);
+    let pic_h = evc_bytes::u16_at(s, 7);
+    let poc = evc_bytes::u16_at(s, 9);
+    let list_poc0 = evc_bytes::u16_at(s, 11);
     TraceHeader {
         pic_w: pic_w as u32,
         pic_h: pic_h as u32,
@@ -165,15 +117,15 @@ pub fn read_record(s: &[u8]) -> EvcTraceRecord
     ensures { λ r. ⌜ r ≡ recordOf countLen (now (s .entry)) ⌝ }
 {
     EvcTraceRecord {
-        x: number16(s, 0),
-        y: number16(s, 2),
-        w: number16(s, 4),
-        h: number16(s, 6),
+        x: evc_bytes::u16_at(s, 0),
+        y: evc_bytes::u16_at(s, 2),
+        w: evc_bytes::u16_at(s, 4),
+        h: evc_bytes::u16_at(s, 6),
         kind: s[8],
         mv0: mv_at(s, 9),
         mv1: mv_at(s, 13),
-        poc0: number16(s, 17),
-        poc1: number16(s, 19),
+        poc0: evc_bytes::u16_at(s, 17),
+        poc1: evc_bytes::u16_at(s, 19),
     }
 }
 
@@ -183,10 +135,10 @@ fn put_mark(out: &mut [u8])
     requires { ⌜ 5 ≤ length (now out) ⌝ }
     ensures { λ _. ⌜ now (out .exit) ≡ written (now (out .entry)) 0 (mark version) ⌝ }
 {
-    put8(out, 0, b'I');
-    put8(out, 1, b'P');
-    put8(out, 2, b'T');
-    put16(out, 3, VERSION);
+    evc_bytes::put_u8(out, 0, b'I');
+    evc_bytes::put_u8(out, 1, b'P');
+    evc_bytes::put_u8(out, 2, b'T');
+    evc_bytes::put_u16(out, 3, VERSION);
 }
 
 fn put_header(pic_w: u16, pic_h: u16, poc: u16, list_poc0: u16, out: &mut [u8])
@@ -206,11 +158,11 @@ fn put_record(r: EvcTraceRecord, out: &mut [u8])
 {
     put_pair(out, 0, r.x, r.y);
     put_pair(out, 4, r.w, r.h);
-    put8(out, 8, r.kind);
+    evc_bytes::put_u8(out, 8, r.kind);
     put_mv(out, 9, r.mv0);
     put_mv(out, 13, r.mv1);
     put_pair(out, 17, r.poc0, r.poc1);
-    put8(out, 21, 0);
+    evc_bytes::put_u8(out, 21, 0);
 }
 
 pub fn evc_trace_write_header(

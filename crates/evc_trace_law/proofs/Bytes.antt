@@ -16,7 +16,7 @@ use Rattle.evc_int.specs.LowBits.{signed16, low16}
 use Rattle.evc_int.proofs.Division.{split-only}
 use Rattle.evc_int.proofs.Expressions.{ !, _⊕_, _⊗_, _⊖_, solve}
 use Rattle.evc_int.proofs.LowBits.{low16-same}
-use Rattle.evc_trace.specs.Bytes.{bytesOf, numberAt}
+use Rattle.evc_bytes.specs.Bytes.{bytesOf, numberAt}
 use Rattle.evc_trace_law.specs.RoundTrip.{Bytes}
 
 -- ---- written and read

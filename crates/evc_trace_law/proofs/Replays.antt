@@ -11,7 +11,7 @@ use lib.IntN.{ℤ}
 use lib.ListN.{length, getD, take, drop, length-append, length-drop, List·getD-append, take-append-drop}
 use lib.Seq.{length-take-le}
 use Rattle.evc_def.specs.Codes.{firstOf, blockChecks}
-use Rattle.evc_trace.specs.Bytes.{numberAt}
+use Rattle.evc_bytes.specs.Bytes.{numberAt}
 use Rattle.evc_trace.specs.Format.{version, countLen, headerLen, isTrace, headerOf}
 use Rattle.evc_trace.specs.declared.TraceHeader.{TraceHeader}
 use Rattle.evc_record.specs.Record.{Planes, Source, source, recordCode, targetAfter, pictureShort}

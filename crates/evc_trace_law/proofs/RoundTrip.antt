@@ -12,8 +12,8 @@ use Rattle.evc_int.proofs.Bools.{both-true, all-true}
 use Rattle.evc_def.specs.Blocks.{badPicture}
 use Rattle.evc_def.proofs.Codes.{accepted, passed, none}
 use Rattle.evc_def.specs.declared.EvcMv.{EvcMv}
-use Rattle.evc_trace.specs.Bytes.{bytesOf, numberAt, overwritten, overwrittenBy}
-use Rattle.evc_trace.specs.Format.{version, countLen, mark, headerLen, headerBytes, isTrace, headerOf, mvBytes, mvOf, recordLen, recordBytes, recordOf, lastByte, isWellFormed, writeHeaderCode, writeRecordCode}
+use Rattle.evc_bytes.specs.Bytes.{bytesOf, numberAt}
+use Rattle.evc_trace.specs.Format.{version, countLen, mark, headerLen, headerBytes, isTrace, headerOf, mvBytes, mvOf, recordLen, recordBytes, recordOf, lastByte, isWellFormed, overwritten, overwrittenBy, writeHeaderCode, writeRecordCode}
 use Rattle.evc_trace.specs.declared.TraceHeader.{TraceHeader}
 use Rattle.evc_trace.specs.declared.EvcTraceRecord.{EvcTraceRecord}
 use Rattle.evc_record.specs.Record.{formCode}

@@ -8,8 +8,7 @@ use lib.ListN.{length, getD, take}
 use mir.Syntax.{w16}
 use mir.Val.{SFits}
 use Rattle.evc_def.specs.Blocks.{badPicture}
-use Rattle.evc_trace.specs.Bytes.{overwritten}
-use Rattle.evc_trace.specs.Format.{version, countLen, headerLen, headerBytes, isTrace, headerOf, recordLen, recordBytes, recordOf, lastByte, writeHeaderCode, writeHeaderAfter, writeRecordCode, writeRecordAfter}
+use Rattle.evc_trace.specs.Format.{version, countLen, headerLen, headerBytes, isTrace, headerOf, recordLen, recordBytes, recordOf, lastByte, overwritten, writeHeaderCode, writeHeaderAfter, writeRecordCode, writeRecordAfter}
 use Rattle.evc_trace.specs.declared.TraceHeader.{TraceHeader}
 use Rattle.evc_trace.specs.declared.EvcTraceRecord.{EvcTraceRecord}
 use Rattle.evc_record.specs.Record.{formCode}

@@ -4,15 +4,16 @@ use mathlib.Core.List.{List, [], _∷_, _++_}
 use Prim.Native.Nat.{ℕ, zero, suc, _+_, _*_, _/_, _%_}
 use lib.Dec.{eqb}
 use lib.IntN.{pos}
-use lib.ListN.{length, getD}
+use lib.ListN.{length}
 use Rattle.evc_int.specs.LowBits.{signed16}
+use Rattle.evc_bytes.specs.Bytes.{numberAt}
 use Rattle.evc_clip.specs.declared.EvcClipped.{EvcClipped}
 use Rattle.evc_clip.specs.Clip.{mvClip}
 use Rattle.mv_clip_text.specs.Decimal.{decimal, signedDecimal}
 
--- "16-byte records": the two bytes of field k of the record at `at`, "low byte first"
+-- "16-byte records": field k of the record at `at`, two bytes, "low byte first"
 abbrev pub field : List ℕ → ℕ → ℕ → ℕ
-field s at k = getD s (at + 2 * k) 0 + 256 * getD s (at + 2 * k + 1) 0
+field s at k = numberAt 2 s (at + 2 * k)
 
 -- "x, y, W, H, w, h, mvx, mvy, each signed 16 bits". Sizes and places are taken as bit patterns: a negative one is 32,768 or more, and is refused
 -- by the number that refuses a side or a place too large

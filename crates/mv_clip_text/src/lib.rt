@@ -25,28 +25,19 @@ const MAX_TEXT_LEN: usize = (CHUNK_RECORDS + 1) * MAX_LINE_LEN;
 
 // ---- a record's answer
 
-fn wide(b: u8) -> u32
-    ensures { λ r. ⌜ (r ≡ b) × (r < 256) ⌝ }
-{
-    b as u32
-}
-
-// Field k of the record at `at`: two bytes, low byte first.
+// Field k of the record at `at`.
 fn field_at(records: &[u8], at: usize, k: usize) -> u32
     requires { ⌜ at + 2 * k + 1 < length (now records) ⌝ }
     ensures { λ r. ⌜ r ≡ field (now (records .entry)) at k ⌝ }
-    ensures { λ r. ⌜ r < 65536 ⌝ }
 {
-    let low = wide(records[at + 2 * k]);
-    let high = wide(records[at + 2 * k + 1]);
-    low + 256 * high
+    evc_bytes::u16_at(records, at + 2 * k) as u32
 }
 
 fn component_at(records: &[u8], at: usize, k: usize) -> i16
     requires { ⌜ at + 2 * k + 1 < length (now records) ⌝ }
     ensures { λ r. ⌜ r ≡ signed16 (field (now (records .entry)) at k) ⌝ }
 {
-    evc_int::low16(field_at(records, at, k) as i32)
+    evc_bytes::i16_at(records, at + 2 * k)
 }
 
 fn answer_at(records: &[u8], at: usize) -> EvcClipped

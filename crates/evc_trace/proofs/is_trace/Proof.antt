@@ -6,7 +6,7 @@ use mathlib.Core.Path.{_≡_}
 use Prim.Native.Nat.{ℕ}
 use lib.Dec.{eqb}
 use lib.ListN.{getD}
-use Rattle.evc_trace.specs.Bytes.{numberAt}
+use Rattle.evc_bytes.specs.Bytes.{numberAt}
 use Rattle.evc_trace.specs.Format.{isTrace}
 use Rattle.evc_trace.proofs.is_trace.Statement.{statement}
 use Rattle.evc_trace.proofs.is_trace.Tie as tie
@@ -15,8 +15,8 @@ marked : (s : List ℕ) (v : ℕ) → v ≡ numberAt 2 s 3 → (eqb (getD s 0 0)
 unfolding isTrace
 marked s v e = rw e
 
-number16-requires : tie.Need-number16-requires
-number16-requires c κs = search needs
+u16-at-requires : tie.Need-u16-at-requires
+u16-at-requires c κs = search needs
 
 shared-slice-read-result : tie.Need-shared-slice-read-result
 shared-slice-read-result c = search needs
@@ -28,13 +28,13 @@ shared-slice-read-result-3 : tie.Need-shared-slice-read-result-3
 shared-slice-read-result-3 c = search needs
 
 returns : tie.Need-returns
-returns c = marked _ _ (c .before .before .before .number16 .ensures)
+returns c = marked _ _ (c .before .before .before .u16-at .ensures)
 
 pub is-trace-spec : {M : Type 1} → statement M
 is-trace-spec =
     tie.close
     (tie.spec
-    number16-requires
+    u16-at-requires
     shared-slice-read-result
     shared-slice-read-result-2
     shared-slice-read-result-3

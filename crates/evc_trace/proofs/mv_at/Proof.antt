@@ -11,17 +11,17 @@ use Rattle.evc_trace.proofs.mv_at.Tie as tie
 both : (a b x y : ℤ) → a ≡ x → b ≡ y → _≡_ {A = EvcMv} (record { x = a; y = b }) (record { x = x; y = y })
 both a b x y p q = rw (p, q)
 
-component-requires : tie.Need-component-requires
-component-requires c κs = search needs
+i16-at-requires : tie.Need-i16-at-requires
+i16-at-requires c κs = search needs
 
-add-component : tie.Need-add-component
-add-component c = search needs
+add-i16-at : tie.Need-add-i16-at
+add-i16-at c = search needs
 
-component-requires-2 : tie.Need-component-requires-2
-component-requires-2 c κs = search needs
+i16-at-requires-2 : tie.Need-i16-at-requires-2
+i16-at-requires-2 c κs = search needs
 
 returns : tie.Need-returns
-returns c = both _ _ _ _ (res w16 (c .before .component .ok) ∙ c .before .component .ensures) (res w16 (c .component2 .ok) ∙ c .component2 .ensures)
+returns c = both _ _ _ _ (res w16 (c .before .i16-at .ok) ∙ c .before .i16-at .ensures) (res w16 (c .i16-at2 .ok) ∙ c .i16-at2 .ensures)
 
 pub mv-at-spec : {M : Type 1} → statement M
-mv-at-spec = tie.close (tie.spec component-requires add-component component-requires-2 returns)
+mv-at-spec = tie.close (tie.spec i16-at-requires add-i16-at i16-at-requires-2 returns)

@@ -1,6 +1,7 @@
 -- `evc_trace::put_header` meets its contract. Assumes nothing.
 use borrow.Author.Needs.{needs}
-use Rattle.evc_trace.proofs.Written.{joined, from-start}
+use Rattle.evc_bytes.proofs.Written.{joined}
+use Rattle.evc_trace.proofs.Written.{from-start}
 use Rattle.evc_trace.proofs.put_header.Statement.{statement}
 use Rattle.evc_trace.proofs.put_header.Tie as tie
 

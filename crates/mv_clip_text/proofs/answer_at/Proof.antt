@@ -31,7 +31,7 @@ returns c =
     let x = y .before in
     let start = x .before .before in
     answered (start .args .records .now) (start .args .at) _ _ _ _ _ _ _ _ _
-    (x .field-at .ensures .0) (y .field-at2 .ensures .0) (W .field-at3 .ensures .0) (H .field-at4 .ensures .0) (w .field-at5 .ensures .0) (h .field-at6 .ensures .0)
+    (x .field-at .ensures) (y .field-at2 .ensures) (W .field-at3 .ensures) (H .field-at4 .ensures) (w .field-at5 .ensures) (h .field-at6 .ensures)
     (res w16 (u .component-at .ok) ∙ u .component-at .ensures) (res w16 (v .component-at2 .ok) ∙ v .component-at2 .ensures)
     (c .mv-clip .ensures)
 

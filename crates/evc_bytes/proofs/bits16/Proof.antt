@@ -1,4 +1,4 @@
--- `evc_trace::bits16` meets its contract. Assumes nothing.
+-- `evc_bytes::bits16` meets its contract. Assumes nothing.
 use mathlib.Core.Path.{_≡_}
 use Prim.Native.Nat.{ℕ, _+_, _%_, _<_, _≤_}
 use native.Mathlib.Omega.{arith}
@@ -8,8 +8,8 @@ use mir.Val.{SFits}
 use Rattle.evc_int.specs.Whole.{_⁺, _⁻, _modulo_}
 use Rattle.evc_int.proofs.Whole.{Is, nat, of, is-+, parts, abs-of, lt-yes, lt-no}
 use Rattle.evc_int.proofs.Machine.{signed, signed-needs, arg, is-rd, fit, to-unsigned}
-use Rattle.evc_trace.proofs.bits16.Statement.{statement}
-use Rattle.evc_trace.proofs.bits16.Tie as tie
+use Rattle.evc_bytes.proofs.bits16.Statement.{statement}
+use Rattle.evc_bytes.proofs.bits16.Tie as tie
 
 negative : (y z : ℤ) → SFits w16 z → z ⁺ < z ⁻ → Is y (z ⁺ + 65536) (z ⁻ + 0) → natAbs y ≡ z modulo 65536
 negative y (pos n) f h i = absurd (omega arith)

@@ -1,4 +1,4 @@
--- What the writers' steps leave.
+-- What a writing step leaves.
 use Prim.Native.Nat.{ℕ}
 use mathlib.Core.List.{List}
 use lib.Seq.{sets}
