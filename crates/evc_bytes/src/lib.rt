@@ -50,7 +50,7 @@ pub fn put_u16(out: &mut [u8], at: usize, v: u16)
 }
 
 // The sixteen bits of a signed number.
-fn bits16(v: i16) -> u16
+pub fn bits16(v: i16) -> u16
     ensures { λ r. ⌜ r ≡ v modulo 65536 ⌝ }
 {
     if v < 0 {

@@ -2,10 +2,9 @@
 //! (`model::camera`) answers, and for every record the machine's own division has to agree. README.md has the layout.
 
 use crate::cases::{word, Rng, LIMITS};
+use crate::lists::{narrow, List};
 use crate::model::camera::{camera_motion, mean, Camera, MOVING, NO_SUCH_UNIT, STILL};
 use crate::model::Mv;
-use crate::util_lists::narrow;
-use std::fmt::Write;
 
 /// What the program has room for.
 const MAX_WORDS: usize = 100;
@@ -120,32 +119,23 @@ fn decoy(rng: &mut Rng) -> i16 {
     [32767, -32768, 12345, -1][rng.below(4)]
 }
 
-/// Records and answers.
-#[derive(Default)]
-struct List {
-    records: Vec<u8>,
-    answers: String,
+fn push(list: &mut List, case: &Case) -> Camera {
+    let answer = case.answer();
+    list.records.extend(case.bytes());
+    list.answer(&answer.to_string());
+    answer
 }
 
-impl List {
-    fn push(&mut self, case: &Case) -> Camera {
-        let answer = case.answer();
-        self.records.extend(case.bytes());
-        writeln!(self.answers, "{answer}").unwrap();
-        answer
-    }
+/// A case that is meant to have this number and this reading.
+fn expect(list: &mut List, case: &Case, code: u32, kind: u32) {
+    let answer = push(list, case);
+    assert_eq!((answer.code, answer.kind), (code, kind));
+}
 
-    /// A case that is meant to have this number and this reading.
-    fn expect(&mut self, case: &Case, code: u32, kind: u32) {
-        let answer = self.push(case);
-        assert_eq!((answer.code, answer.kind), (code, kind));
-    }
-
-    fn expect_means(&mut self, case: &Case, means: [f64; 2]) {
-        let answer = self.push(case);
-        assert_eq!((answer.code, answer.kind), (0, MOVING));
-        assert_eq!(answer.mean, means.map(f64::to_bits));
-    }
+fn expect_means(list: &mut List, case: &Case, means: [f64; 2]) {
+    let answer = push(list, case);
+    assert_eq!((answer.code, answer.kind), (0, MOVING));
+    assert_eq!(answer.mean, means.map(f64::to_bits));
 }
 
 /// The whole list.
@@ -161,25 +151,30 @@ pub fn camera() -> [Vec<u8>; 2] {
     longer(&mut list, &mut rng);
     sides(&mut list, &mut rng);
     lengths(&mut list, &mut rng);
-    [list.records, list.answers.into_bytes()]
+    list.done()
 }
 
 /// Document 02's line, and what is next to it.
 fn lines(list: &mut List, rng: &mut Rng) {
-    list.expect_means(&Case::row(&[[6, 0], [7, 0]]), [1.625, 0.0]);
-    list.expect_means(&Case::row(&[[0, 6], [0, 7]]), [0.0, 1.625]);
-    list.expect_means(&Case::row(&[[-6, 7], [-7, 6]]), [-1.625, 1.625]);
-    list.expect_means(&Case::of([4, 8], &[[6, 0], [7, 0]]), [1.625, 0.0]);
+    expect_means(list, &Case::row(&[[6, 0], [7, 0]]), [1.625, 0.0]);
+    expect_means(list, &Case::row(&[[0, 6], [0, 7]]), [0.0, 1.625]);
+    expect_means(list, &Case::row(&[[-6, 7], [-7, 6]]), [-1.625, 1.625]);
+    expect_means(list, &Case::of([4, 8], &[[6, 0], [7, 0]]), [1.625, 0.0]);
     let decoyed = Case::row(&[[6, 0], [7, 0]]).with_decoys(rng);
-    list.expect_means(&decoyed, [1.625, 0.0]);
-    list.expect(&Case::row(&[[4, 0], [-4, 0]]), 0, STILL);
-    list.expect(&Case::row(&[[0, -4], [0, 4]]), 0, STILL);
-    list.expect(&Case::row(&[[4, -4], [-4, 4]]).with_decoys(rng), 0, STILL);
-    list.expect(&Case::row(&[[0, 0]]), 0, STILL);
-    list.expect(&Case::of([40, 40], &[[0, 0]; 100]), 0, STILL);
-    list.expect_means(&Case::row(&[[1, 0]]), [0.25, 0.0]);
-    list.expect_means(&Case::row(&[[0, -1]]), [0.0, -0.25]);
-    list.expect_means(&Case::row(&[[4, -8]]), [1.0, -2.0]);
+    expect_means(list, &decoyed, [1.625, 0.0]);
+    expect(list, &Case::row(&[[4, 0], [-4, 0]]), 0, STILL);
+    expect(list, &Case::row(&[[0, -4], [0, 4]]), 0, STILL);
+    expect(
+        list,
+        &Case::row(&[[4, -4], [-4, 4]]).with_decoys(rng),
+        0,
+        STILL,
+    );
+    expect(list, &Case::row(&[[0, 0]]), 0, STILL);
+    expect(list, &Case::of([40, 40], &[[0, 0]; 100]), 0, STILL);
+    expect_means(list, &Case::row(&[[1, 0]]), [0.25, 0.0]);
+    expect_means(list, &Case::row(&[[0, -1]]), [0.0, -0.25]);
+    expect_means(list, &Case::row(&[[4, -8]]), [1.0, -2.0]);
 }
 
 /// Each state of a unit, alone and beside one that counts, and pictures in which none counts.
@@ -188,16 +183,21 @@ fn states(list: &mut List, rng: &mut Rng) {
         let is_counted = COUNTED.contains(&state);
         let mut one = Case::row(&[[5, -3]]);
         one.states = vec![state];
-        list.expect(&one, 0, if is_counted { MOVING } else { NO_SUCH_UNIT });
+        expect(
+            list,
+            &one,
+            0,
+            if is_counted { MOVING } else { NO_SUCH_UNIT },
+        );
         for at in 0..2 {
             let mut two = Case::row(&[[6, 20], [7, -9]]);
             two.states[at] = state;
-            list.expect(&two, 0, MOVING);
+            expect(list, &two, 0, MOVING);
         }
         // a unit that does not count moves nothing
         let mut still = Case::row(&[[0, 0], [-5, 5], [0, 0]]);
         still.states[1] = state;
-        list.expect(&still, 0, if is_counted { MOVING } else { STILL });
+        expect(list, &still, 0, if is_counted { MOVING } else { STILL });
     }
     for pic in [[8, 4], [12, 8], [40, 40]] {
         let units = (pic[0] * pic[1] / 16) as usize;
@@ -205,17 +205,17 @@ fn states(list: &mut List, rng: &mut Rng) {
         for state in UNCOUNTED {
             let mut none = Case::of(pic, &vectors);
             none.states.fill(state);
-            list.expect(&none, 0, NO_SUCH_UNIT);
+            expect(list, &none, 0, NO_SUCH_UNIT);
         }
         let mut none = Case::of(pic, &vectors);
         none.states = (0..units).map(|_| UNCOUNTED[rng.below(6)]).collect();
-        list.expect(&none, 0, NO_SUCH_UNIT);
+        expect(list, &none, 0, NO_SUCH_UNIT);
         // and one that does, the first, the last, and one between
         for at in [0, units / 2, units - 1] {
             let mut one = none.clone();
             one.states[at] = COUNTED[rng.below(2)];
             one.map[4 * at..4 * at + 2].copy_from_slice(&[3, -1]);
-            list.expect_means(&one, [0.75, -0.25]);
+            expect_means(list, &one, [0.75, -0.25]);
         }
     }
 }
@@ -242,24 +242,24 @@ fn zeros(list: &mut List, rng: &mut Rng) {
         for (zero, back) in [(0, 0), (1, -1), (-32767, 32767)] {
             let across = Case::row(&[[zero, other], [back, 0]]);
             let mean = f64::from(other) / 8.0;
-            list.expect_means(&across, [0.0, mean]);
+            expect_means(list, &across, [0.0, mean]);
             let down = Case::row(&[[0, zero], [other, back]]);
-            list.expect_means(&down, [mean, 0.0]);
+            expect_means(list, &down, [mean, 0.0]);
         }
     }
     for n in [2, 3, 7, 10, 64, 99] {
         let both = Case::row(&cancelling(n, [true; 2], rng)).with_decoys(rng);
-        list.expect(&both, 0, STILL);
+        expect(list, &both, 0, STILL);
         for is_zero in [[true, false], [false, true]] {
             let one = Case::row(&cancelling(n, is_zero, rng)).with_decoys(rng);
-            let answer = list.push(&one);
+            let answer = push(list, &one);
             assert_eq!(answer.mean.map(|bits| bits == 0), is_zero);
         }
     }
     // three vectors that come to nothing together, and nearly so
-    list.expect(&Case::row(&[[5, -7], [-2, 3], [-3, 4]]), 0, STILL);
-    list.expect(&Case::row(&[[5, -7], [-2, 3], [-3, 5]]), 0, MOVING);
-    list.expect(&Case::row(&[[5, -7], [-2, 3], [-4, 4]]), 0, MOVING);
+    expect(list, &Case::row(&[[5, -7], [-2, 3], [-3, 4]]), 0, STILL);
+    expect(list, &Case::row(&[[5, -7], [-2, 3], [-3, 5]]), 0, MOVING);
+    expect(list, &Case::row(&[[5, -7], [-2, 3], [-4, 4]]), 0, MOVING);
 }
 
 /// The ends of sixteen bits everywhere, and everywhere but in one unit.
@@ -270,9 +270,9 @@ fn ends(list: &mut List, rng: &mut Rng) {
             for y in [32767, -32768] {
                 let mut vectors = vec![[x, y]; units];
                 let means = [x, y].map(|v| f64::from(v) / 4.0);
-                list.expect_means(&Case::of(pic, &vectors).with_decoys(rng), means);
+                expect_means(list, &Case::of(pic, &vectors).with_decoys(rng), means);
                 vectors[units / 2] = [-1, 1];
-                list.expect(&Case::of(pic, &vectors).with_decoys(rng), 0, MOVING);
+                expect(list, &Case::of(pic, &vectors).with_decoys(rng), 0, MOVING);
             }
         }
     }
@@ -317,7 +317,7 @@ fn roundings(list: &mut List, rng: &mut Rng) {
         for [x, y] in [[up, -down], [-up, down], [down, 1]] {
             let (xs, ys) = (adding_up(x, n, rng), adding_up(y, n, rng));
             let vectors: Vec<Mv> = xs.into_iter().zip(ys).map(|(x, y)| [x, y]).collect();
-            let answer = list.push(&Case::row(&vectors).with_decoys(rng));
+            let answer = push(list, &Case::row(&vectors).with_decoys(rng));
             let means = [x, y].map(|sum| mean(sum.into(), n));
             assert_eq!((answer.kind, answer.mean), (MOVING, means));
         }
@@ -343,7 +343,7 @@ fn any(list: &mut List, rng: &mut Rng) {
         });
         let states = states.collect();
         let case = Case { pic, states, map };
-        assert_eq!(list.push(&case).code, 0);
+        assert_eq!(push(list, &case).code, 0);
     }
 }
 
@@ -361,12 +361,17 @@ fn longer(list: &mut List, rng: &mut Rng) {
     ] {
         let vectors = [[6, 0], [7, 0], [6, 0], [7, 0], [6, 0], [7, 0]];
         let moving = Case::of([12, 8], &vectors).with_excess(words, numbers, rng);
-        list.expect_means(&moving, [1.625, 0.0]);
+        expect_means(list, &moving, [1.625, 0.0]);
         let still = Case::of([8, 12], &[[0, 0]; 6]).with_excess(words, numbers, rng);
-        list.expect(&still, 0, STILL);
+        expect(list, &still, 0, STILL);
         let mut none = Case::of([24, 4], &vectors);
         none.states.fill(3);
-        list.expect(&none.with_excess(words, numbers, rng), 0, NO_SUCH_UNIT);
+        expect(
+            list,
+            &none.with_excess(words, numbers, rng),
+            0,
+            NO_SUCH_UNIT,
+        );
     }
 }
 
@@ -377,7 +382,7 @@ const HUGE: [u32; 3] = [0xffff_ff00, 0xffff_fffc, 0xffff_ffff];
 fn sides(list: &mut List, rng: &mut Rng) {
     let vectors = [[6, 1], [7, 1], [6, -1], [7, -1]];
     let good = Case::of([8, 8], &vectors);
-    list.expect_means(&good, [1.625, 0.0]);
+    expect_means(list, &good, [1.625, 0.0]);
     let bad = [
         0, 1, 2, 3, 5, 6, 7, 9, 10, 8129, 8130, 8132, 16384, 32768, 65276, 65279,
     ];
@@ -385,13 +390,13 @@ fn sides(list: &mut List, rng: &mut Rng) {
         for d in 0..2 {
             let mut case = good.clone().with_excess(16, 64, rng);
             case.pic[d] = *side;
-            list.expect(&case, 1, NO_SUCH_UNIT);
+            expect(list, &case, 1, NO_SUCH_UNIT);
         }
     }
     for side in HUGE {
         let mut case = good.clone();
         case.pic = [side; 2];
-        list.expect(&case, 1, NO_SUCH_UNIT);
+        expect(list, &case, 1, NO_SUCH_UNIT);
     }
     for (d, side) in [(0, 0), (1, 2), (0, 8132), (1, 0xffff_fffc)] {
         for (words, numbers) in [(3, 16), (4, 15), (0, 0)] {
@@ -399,13 +404,13 @@ fn sides(list: &mut List, rng: &mut Rng) {
             case.pic[d] = side;
             case.states.truncate(words);
             case.map.truncate(numbers);
-            list.expect(&case, 1, NO_SUCH_UNIT);
+            expect(list, &case, 1, NO_SUCH_UNIT);
         }
     }
     for pic in [[8128, 4], [4, 8128], [8128, 8128], [8124, 8]] {
         let mut case = good.clone().with_excess(96, 384, rng);
         case.pic = pic;
-        list.expect(&case, 4, NO_SUCH_UNIT);
+        expect(list, &case, 4, NO_SUCH_UNIT);
     }
 }
 
@@ -425,15 +430,15 @@ fn lengths(list: &mut List, rng: &mut Rng) {
                 } else {
                     (4, NO_SUCH_UNIT)
                 };
-                list.expect(&case, code, kind);
+                expect(list, &case, code, kind);
             }
         }
     }
     // one buffer long, the other short
     let mut case = Case::of([12, 8], &[[9, -2]; 6]).with_excess(94, 0, rng);
     case.map.truncate(23);
-    list.expect(&case, 4, NO_SUCH_UNIT);
+    expect(list, &case, 4, NO_SUCH_UNIT);
     let mut case = Case::of([12, 8], &[[9, -2]; 6]).with_excess(0, 376, rng);
     case.states.truncate(5);
-    list.expect(&case, 4, NO_SUCH_UNIT);
+    expect(list, &case, 4, NO_SUCH_UNIT);
 }

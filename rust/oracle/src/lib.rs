@@ -46,9 +46,12 @@ mod util {
 
 pub mod camera_lists;
 pub mod cases;
+mod lists;
 pub mod mc2_lists;
 pub mod mc_lists;
 pub mod model;
+pub mod mv_clip_lists;
+pub mod pad_lists;
 pub mod replay_lists;
 pub mod util_lists;
 pub use mc::calls::{evc_mc_plane, mv_clip, Picture, References};

@@ -5,10 +5,9 @@
 use crate::cases::{
     arbitrary, hash, random_block, sides, vector, BlockCall, Rng, Toward, TOWARDS, USES,
 };
+use crate::lists::{narrow, small, List};
 use crate::model::{Block, Mv, OnePlane, PRED_LEN};
-use crate::util_lists::narrow;
 use crate::{pad, plane_config, plane_of, Picture};
-use std::fmt::Write;
 
 /// Samples that a plane of this picture needs.
 pub(crate) fn needed(pic: [u32; 2], chroma: bool) -> usize {
@@ -100,77 +99,57 @@ impl Case {
     }
 }
 
-/// Records and answers.
-#[derive(Default)]
-struct List {
-    records: Vec<u8>,
-    answers: String,
-}
-
-impl List {
-    /// Sixteen numbers, in the parts that belong together.
-    fn record(&mut self, parts: &[&[u16]]) {
-        let numbers = parts.concat();
-        assert_eq!(numbers.len(), 16);
-        self.records
-            .extend(numbers.iter().flat_map(|n| n.to_le_bytes()));
-    }
-
-    /// Planes and the calls on them. Where document 01 refuses nothing, the Rust has to agree.
-    fn push(&mut self, lent: &Lent, cases: &[Case]) {
-        let set = lent.set.map_or([6, 0, 0], |set| {
-            [small(set.plane), small(set.place), set.value]
-        });
-        self.record(&[
-            &lent.pic.map(narrow),
+/// Planes and the calls on them. Where document 01 refuses nothing, the Rust has to agree.
+fn push(list: &mut List, lent: &Lent, cases: &[Case]) {
+    let set = lent.set.map_or([6, 0, 0], |set| {
+        [small(set.plane), small(set.place), set.value]
+    });
+    list.record(
+        &[
+            &lent.pic.map(narrow)[..],
             &lent.seed,
             &[lent.limit, u16::from(lent.padded)],
             &lent.len.map(small),
             &set,
             &[small(cases.len())],
-        ]);
-        let samples = lent.samples();
-        let planes = [0, 3].map(|first| [0, 1, 2].map(|k| &samples[first + k][..]));
-        let mut pictures = None;
-        for Case { c, len, seed } in cases {
-            let [used0, used1] = c.used.map(u16::from);
-            let lists = [0, 1].map(|k| {
-                let [mvx, mvy] = c.mv[k].map(|v| v as u16);
-                [mvx, mvy, narrow(c.poc[k])]
-            });
-            self.record(&[
-                &c.b.place.map(narrow),
+        ]
+        .concat(),
+    );
+    let samples = lent.samples();
+    let planes = [0, 3].map(|first| [0, 1, 2].map(|k| &samples[first + k][..]));
+    let mut pictures = None;
+    for Case { c, len, seed } in cases {
+        let [used0, used1] = c.used.map(u16::from);
+        let lists = [0, 1].map(|k| {
+            let [mvx, mvy] = c.mv[k].map(|v| v as u16);
+            [mvx, mvy, narrow(c.poc[k])]
+        });
+        list.record(
+            &[
+                &c.b.place.map(narrow)[..],
                 &c.b.side.map(narrow),
                 &[used0 + 2 * used1],
                 &lists.concat(),
                 &len.map(small),
                 seed,
                 &[0],
-            ]);
+            ]
+            .concat(),
+        );
 
-            let [mut pred0, mut pred1] = [0, 1].map(|k| arbitrary(len[k], seed[k]));
-            let [mut rust0, mut rust1] = [pred0.clone(), pred1.clone()];
-            let code = c.by_the_document(planes, &mut pred0, &mut pred1);
-            if code == 0 {
-                assert!(c.in_domain(), "{:?}", c);
-                let make = || [0, 3].map(|first| lent.picture(&samples[first..first + 3]));
-                let pictures = pictures.get_or_insert_with(make);
-                c.by_the_rust(pictures.each_ref(), &mut rust0, &mut rust1);
-            }
-            let is_same = rust0 == pred0 && rust1 == pred1;
-            assert!(is_same, "the Rust and document 01: {:?}", c);
-            writeln!(self.answers, "{code} {} {}", hash(&rust0), hash(&rust1)).unwrap();
+        let [mut pred0, mut pred1] = [0, 1].map(|k| arbitrary(len[k], seed[k]));
+        let [mut rust0, mut rust1] = [pred0.clone(), pred1.clone()];
+        let code = c.by_the_document(planes, &mut pred0, &mut pred1);
+        if code == 0 {
+            assert!(c.in_domain(), "{:?}", c);
+            let make = || [0, 3].map(|first| lent.picture(&samples[first..first + 3]));
+            let pictures = pictures.get_or_insert_with(make);
+            c.by_the_rust(pictures.each_ref(), &mut rust0, &mut rust1);
         }
+        let is_same = rust0 == pred0 && rust1 == pred1;
+        assert!(is_same, "the Rust and document 01: {:?}", c);
+        list.answer(&format!("{code} {} {}", hash(&rust0), hash(&rust1)));
     }
-
-    fn done(self) -> [Vec<u8>; 2] {
-        [self.records, self.answers.into_bytes()]
-    }
-}
-
-pub(crate) fn small(n: usize) -> u16 {
-    assert!(n < 65536, "{n} has no two bytes");
-    n as u16
 }
 
 /// Every pair of ways that a vector leads.
@@ -221,7 +200,7 @@ pub fn accepted() -> [Vec<u8>; 2] {
                     cases.push(Case::new(c, &mut rng));
                 }
             }
-            list.push(&lent, &cases);
+            push(&mut list, &lent, &cases);
         }
     }
 
@@ -242,7 +221,7 @@ pub fn accepted() -> [Vec<u8>; 2] {
             cases.push(Case::new(c, &mut rng));
         }
     }
-    list.push(&lent, &cases);
+    push(&mut list, &lent, &cases);
 
     // Every size of a block with each use of the lists.
     for (pic, padded) in [([64, 64], false), ([96, 84], true)] {
@@ -263,7 +242,7 @@ pub fn accepted() -> [Vec<u8>; 2] {
                 cases.push(Case::new(random_call(b, used, &mut rng), &mut rng));
             }
         }
-        list.push(&lent, &cases);
+        push(&mut list, &lent, &cases);
     }
 
     // Equal motion, from the start or by clipping alone, and with other counts; over two pictures and
@@ -292,7 +271,7 @@ pub fn accepted() -> [Vec<u8>; 2] {
                     cases.push(Case::new(c, &mut rng));
                 }
             }
-            list.push(&lent, &cases);
+            push(&mut list, &lent, &cases);
         }
     }
     list.done()
@@ -352,7 +331,7 @@ fn picture_sides(list: &mut List, rng: &mut Rng) {
         let mut c = random_call(random_block([8, 8], rng), USES[2], rng);
         c.b = b;
         c.mv = [[5, 6], [-7, 8]];
-        list.push(&lent, &[Case::new(c, rng), refused_by_all(b)]);
+        push(list, &lent, &[Case::new(c, rng), refused_by_all(b)]);
     }
 }
 
@@ -394,7 +373,7 @@ fn block_sides(list: &mut List, rng: &mut Rng) {
             cases.push(all);
         }
     }
-    list.push(&lent, &cases);
+    push(list, &lent, &cases);
 }
 
 /// 3, and 3 before 4 and 5.
@@ -415,7 +394,7 @@ fn lists_in_use(list: &mut List, rng: &mut Rng) {
             all.c.used = used;
             cases.push(all);
         }
-        list.push(&lent, &cases);
+        push(list, &lent, &cases);
     }
 }
 
@@ -439,20 +418,20 @@ fn lengths(list: &mut List, rng: &mut Rng) {
             ..Lent::new(pic, rng)
         };
         let cases = with_uses(&exact, rng);
-        list.push(&exact, &cases);
+        push(list, &exact, &cases);
         for plane in 0..6 {
             for len in [exact.len[plane] - 1, 0] {
                 let mut short = exact.clone();
                 short.len[plane] = len;
                 let cases = with_uses(&short, rng);
-                list.push(&short, &cases);
+                push(list, &short, &cases);
             }
         }
         for first in [0, 3] {
             let mut short = exact.clone();
             short.len[first..first + 3].fill(0);
             let cases = with_uses(&short, rng);
-            list.push(&short, &cases);
+            push(list, &short, &cases);
         }
     }
     let lent = Lent::new([20, 12], rng);
@@ -468,7 +447,7 @@ fn lengths(list: &mut List, rng: &mut Rng) {
             }
         }
     }
-    list.push(&lent, &cases);
+    push(list, &lent, &cases);
 }
 
 /// 5 of lists in use, and 5 before 6.
@@ -488,7 +467,7 @@ fn counts(list: &mut List, rng: &mut Rng) {
                 }
             }
         }
-        list.push(&lent, &cases);
+        push(list, &lent, &cases);
     }
 }
 
@@ -548,7 +527,7 @@ fn examined(list: &mut List, rng: &mut Rng) {
                 };
                 cases.push(Case::new(c, rng));
             }
-            list.push(&lent, &cases);
+            push(list, &lent, &cases);
         }
     }
     for pic in [[4, 4], [24, 16]] {
@@ -562,6 +541,6 @@ fn examined(list: &mut List, rng: &mut Rng) {
                 Case::new(c, rng)
             })
             .collect();
-        list.push(&lent, &cases);
+        push(list, &lent, &cases);
     }
 }

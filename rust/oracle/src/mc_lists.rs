@@ -1,12 +1,12 @@
-//! The lists of calls on one plane with their answers: one list with the Rust's answers, and one of
-//! refusals, which the Rust does not have and document 01 (`model`) answers. README.md has the layout.
+//! The lists of calls on one plane with their answers: a few with the blocks whole, to be read; one list with the Rust's
+//! answers; and one of refusals, which the Rust does not have and document 01 (`model`) answers. README.md has the layout.
 
 use crate::cases::{
     arbitrary, fractions, hash, plane_sides, set_vectors, Fraction, Rng, Start, STARTS,
 };
+use crate::lists::{small, spaced, List};
 use crate::model::{one_plane, OnePlane};
 use crate::{evc_mc_plane, pad, plane_of};
-use std::fmt::Write;
 
 /// A plane that is lent to calls.
 struct Lent {
@@ -16,6 +16,8 @@ struct Lent {
     seed: u16,
     limit: u16,
     padded: bool,
+    /// Whether the blocks predicted from it are printed whole.
+    whole: bool,
 }
 
 impl Lent {
@@ -28,6 +30,7 @@ impl Lent {
             seed: rng.below(65536) as u16,
             limit: 1024,
             padded: false,
+            whole: false,
         };
         lent.len = lent.call([0, 0]).plane_len() + [0, 1, 17][rng.below(3)];
         lent
@@ -73,58 +76,42 @@ impl Case {
     }
 }
 
-/// Records and answers.
-#[derive(Default)]
-struct List {
-    records: Vec<u8>,
-    answers: String,
-}
+/// A plane and the calls on it. Where document 01 refuses nothing, the Rust has to agree.
+fn push(list: &mut List, lent: &Lent, cases: &[Case]) {
+    let [pic_w, pic_h] = lent.pic.map(|n| small(n as usize));
+    let [len, count] = [lent.len, cases.len()].map(small);
+    let [chroma, padded, whole] = [lent.chroma, lent.padded, lent.whole].map(u16::from);
+    list.record(&[
+        chroma, pic_w, pic_h, len, lent.seed, lent.limit, padded, count, whole,
+    ]);
+    let samples = lent.samples();
+    for Case { c, len, seed } in cases {
+        let [[ox, oy], [gx, gy]] = [c.ori_mv, c.gmv].map(|mv| mv.map(|v| v as u16));
+        let [w, h] = c.side.map(|n| small(n as usize));
+        list.record(&[ox, oy, gx, gy, w, h, small(*len), *seed]);
 
-impl List {
-    fn record(&mut self, numbers: [u16; 8]) {
-        self.records
-            .extend(numbers.iter().flat_map(|n| n.to_le_bytes()));
-    }
-
-    /// A plane and the calls on it. Where document 01 refuses nothing, the Rust has to agree.
-    fn push(&mut self, lent: &Lent, cases: &[Case]) {
-        let [pic_w, pic_h] = lent.pic.map(narrow);
-        let [len, count] = [lent.len, cases.len()].map(|n| narrow(n as u32));
-        let flags = [lent.chroma, lent.padded].map(u16::from);
-        self.record([
-            flags[0], pic_w, pic_h, len, lent.seed, lent.limit, flags[1], count,
-        ]);
-        let samples = lent.samples();
-        for Case { c, len, seed } in cases {
-            let [[ox, oy], [gx, gy]] = [c.ori_mv, c.gmv].map(|mv| mv.map(|v| v as u16));
-            let [w, h] = c.side.map(narrow);
-            self.record([ox, oy, gx, gy, w, h, narrow(*len as u32), *seed]);
-
-            let mut pred = arbitrary(*len, *seed);
-            let mut by_the_rust = pred.clone();
-            let code = one_plane(c, &samples, &mut pred);
-            if code == 0 {
-                let [w, h] = lent.pic.map(|n| n as usize);
-                let plane = plane_of(lent.chroma, w, h, &samples);
-                evc_mc_plane(c, &plane, &mut by_the_rust);
-            }
-            assert_eq!(by_the_rust, pred, "the Rust and document 01: {c:?}");
-            writeln!(self.answers, "{code} {}", hash(&by_the_rust)).unwrap();
+        let mut pred = arbitrary(*len, *seed);
+        let mut by_the_rust = pred.clone();
+        let code = one_plane(c, &samples, &mut pred);
+        if code == 0 {
+            let [w, h] = lent.pic.map(|n| n as usize);
+            let plane = plane_of(lent.chroma, w, h, &samples);
+            evc_mc_plane(c, &plane, &mut by_the_rust);
+        }
+        assert_eq!(by_the_rust, pred, "the Rust and document 01: {c:?}");
+        if !lent.whole {
+            list.answer(&format!("{code} {}", hash(&by_the_rust)));
+            continue;
+        }
+        list.answer(&code.to_string());
+        for row in by_the_rust.chunks(usize::from(w)) {
+            list.answer(&spaced(row));
         }
     }
-
-    fn done(self) -> [Vec<u8>; 2] {
-        [self.records, self.answers.into_bytes()]
-    }
-}
-
-fn narrow(n: u32) -> u16 {
-    assert!(n < 65536, "{n} has no two bytes");
-    n as u16
 }
 
 /// Blocks that most calls take.
-fn small(chroma: bool) -> [[u32; 2]; 5] {
+fn small_sides(chroma: bool) -> [[u32; 2]; 5] {
     if chroma {
         [[2, 2], [4, 2], [2, 4], [8, 8], [2, 8]]
     } else {
@@ -132,12 +119,42 @@ fn small(chroma: bool) -> [[u32; 2]; 5] {
     }
 }
 
+/// Each path of luma and of chroma, with the blocks whole.
+pub fn whole() -> [Vec<u8>; 2] {
+    let mut list = List::default();
+    for chroma in [false, true] {
+        let mut lent = Lent {
+            chroma,
+            pic: [8, 8],
+            len: 0,
+            seed: 7 + u16::from(chroma),
+            limit: 1024,
+            padded: true,
+            whole: true,
+        };
+        lent.len = lent.call([0, 0]).plane_len();
+        let cases = [[0, 0], [1, 0], [0, 2], [3, 1]].map(|ori_mv| {
+            let [x, y] = if chroma { [8, 16] } else { [4, 8] };
+            let mut c = lent.call(if chroma { [2, 2] } else { [4, 4] });
+            c.ori_mv = ori_mv;
+            c.gmv = [x + ori_mv[0], y + ori_mv[1]];
+            Case {
+                c,
+                len: c.block_len(),
+                seed: 5,
+            }
+        });
+        push(&mut list, &lent, &cases);
+    }
+    list.done()
+}
+
 /// Accepted calls.
 pub fn accepted() -> [Vec<u8>; 2] {
     let mut rng = Rng(21);
     let mut list = List::default();
     for chroma in [false, true] {
-        let sides = small(chroma);
+        let sides = small_sides(chroma);
         let all = fractions(chroma);
 
         // Every path with every phase and every way that the start is held, over planes whose
@@ -155,7 +172,7 @@ pub fn accepted() -> [Vec<u8>; 2] {
             }
         }
         for (lent, cases) in &planes {
-            list.push(lent, cases);
+            push(&mut list, lent, cases);
         }
 
         // Every path with every phase over a padded plane.
@@ -171,7 +188,7 @@ pub fn accepted() -> [Vec<u8>; 2] {
                 Case::new(c, &mut rng)
             })
             .collect();
-        list.push(&lent, &cases);
+        push(&mut list, &lent, &cases);
 
         // Every size of a block, on every path once in two pictures.
         for (k, pic) in [[8, 4], [64, 64]].iter().enumerate() {
@@ -190,7 +207,7 @@ pub fn accepted() -> [Vec<u8>; 2] {
                     }
                 }
             }
-            list.push(&lent, &cases);
+            push(&mut list, &lent, &cases);
         }
     }
     list.done()
@@ -202,7 +219,7 @@ pub fn bad() -> [Vec<u8>; 2] {
     let mut list = List::default();
     for chroma in [false, true] {
         let all = fractions(chroma);
-        let sides = small(chroma);
+        let sides = small_sides(chroma);
         let random = |lent: &Lent, side: [u32; 2], rng: &mut Rng| {
             let mut c = lent.call(side);
             let starts = [(); 2].map(|_| STARTS[rng.below(3)]);
@@ -234,7 +251,7 @@ pub fn bad() -> [Vec<u8>; 2] {
                     seed: 1,
                 })
                 .collect();
-            list.push(&lent, &cases);
+            push(&mut list, &lent, &cases);
         }
 
         // 2, and 2 before 4. Sides in each direction; those of the other plane among them.
@@ -250,7 +267,7 @@ pub fn bad() -> [Vec<u8>; 2] {
                 cases.push(case);
             }
         }
-        list.push(&lent, &cases);
+        push(&mut list, &lent, &cases);
 
         // 4: a plane too short by one, and empty; a block too short by one, and empty.
         for (k, pic) in [[4, 4], [12, 8], [4, 20]].iter().enumerate() {
@@ -270,7 +287,7 @@ pub fn bad() -> [Vec<u8>; 2] {
                         cases.push(case);
                     }
                 }
-                list.push(&lent, &cases);
+                push(&mut list, &lent, &cases);
             }
         }
 
@@ -283,7 +300,7 @@ pub fn bad() -> [Vec<u8>; 2] {
             let cases: Vec<Case> = (0..200)
                 .map(|k| random(&lent, sides[k % 5], &mut rng))
                 .collect();
-            list.push(&lent, &cases);
+            push(&mut list, &lent, &cases);
         }
     }
     list.done()

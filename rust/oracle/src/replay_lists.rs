@@ -2,15 +2,14 @@
 //! the Rust does not have and document 02's W1 (`model::trace`) answers. README.md has the layout.
 
 use crate::cases::{arbitrary, hash, random_block, record, sides, trace, vector, ByTheRust, Rng};
-use crate::mc2_lists::{needed, random_vector, small, towards, Set};
+use crate::lists::{small, List};
+use crate::mc2_lists::{needed, random_vector, towards, Set};
 use crate::model::trace::{replay, replay_by, Header, Lent, Record, Replay};
 use crate::model::trace::{HEADER_LEN, RECORD_LEN};
 use crate::model::{self, Block, Collocated};
 use crate::{plane_config, plane_of, Picture};
-use std::fmt::Write;
 
 /// What the program has room for.
-const MAX_CASES: usize = 128;
 const MAX_PLANE_LEN: usize = 65535;
 const MAX_MAP_LEN: usize = 4096;
 const MAX_TRACE_LEN: usize = 4096;
@@ -109,14 +108,17 @@ impl Case {
         let set = self.set.map_or([6, 0, 0], |set| {
             [small(set.plane), small(set.place), set.value]
         });
+        let len = self.len.map(small);
         let numbers = [
             &self.pic.map(|n| small(n as usize))[..],
-            &self.seed,
+            &self.seed[..2],
             &[self.limit, u16::from(self.padded)],
-            &self.len.map(small),
+            &len[..6],
+            &set,
+            &self.seed[2..],
+            &len[6..],
             &[u16::from(self.has_col), small(self.map_len)],
             &[self.map_seed, self.span],
-            &set,
             &[small(self.trace.len())],
         ]
         .concat();
@@ -163,35 +165,19 @@ fn picture(pic: [u16; 2], planes: [&[u16]; 3]) -> Picture {
     Picture::new([0, 1, 2].map(|k| plane_of(k > 0, w, h, planes[k])))
 }
 
-/// Records and answers.
-#[derive(Default)]
-struct List {
-    cases: usize,
-    records: Vec<u8>,
-    answers: String,
+fn push(list: &mut List, case: &Case) -> Replay {
+    let (answer, target) = case.answer();
+    list.records.extend(case.bytes());
+    let [y, u, v] = [0, 1, 2].map(|k| hash(&target[k]));
+    let Replay { code, index } = answer;
+    list.answer(&format!("{code} {index} {y} {u} {v}"));
+    answer
 }
 
-impl List {
-    fn push(&mut self, case: &Case) -> Replay {
-        let (answer, target) = case.answer();
-        self.cases += 1;
-        self.records.extend(case.bytes());
-        let [y, u, v] = [0, 1, 2].map(|k| hash(&target[k]));
-        let Replay { code, index } = answer;
-        writeln!(self.answers, "{code} {index} {y} {u} {v}").unwrap();
-        answer
-    }
-
-    /// A case that is meant to have this answer.
-    fn expect(&mut self, case: &Case, code: u32, index: usize) {
-        let index = index as u64;
-        assert_eq!(self.push(case), Replay { code, index });
-    }
-
-    fn done(self) -> [Vec<u8>; 2] {
-        assert!(self.cases <= MAX_CASES);
-        [self.records, self.answers.into_bytes()]
-    }
+/// A case that is meant to have this answer.
+fn expect(list: &mut List, case: &Case, code: u32, index: usize) {
+    let index = index as u64;
+    assert_eq!(push(list, case), Replay { code, index });
 }
 
 // ---- accepted traces
@@ -254,7 +240,7 @@ pub fn accepted() -> [Vec<u8>; 2] {
     let mut list = List::default();
     let mut push = |mut case: Case, header: Header, records: &[Record]| {
         case.trace = trace(&header, records);
-        list.expect(&case, 0, records.len());
+        expect(&mut list, &case, 0, records.len());
     };
 
     // No record at all; the header's counts are then not looked at.
@@ -472,16 +458,16 @@ fn of_three(rng: &mut Rng) -> Case {
 
 /// 11, 10 and 1 of the header, each before all that come later, and 4.
 fn headers(list: &mut List, rng: &mut Rng) {
-    list.expect(&of_three(rng), 0, 3);
+    expect(list, &of_three(rng), 0, 3);
     for len in [0, 1, 5, 12] {
         let mut case = of_three(rng);
         case.trace.truncate(len);
-        list.expect(&case, 11, 0);
+        expect(list, &case, 11, 0);
     }
     for (at, value) in [(0, b'i'), (1, b'Q'), (2, 0), (3, 0), (3, 2), (4, 1)] {
         let mut case = of_three(rng);
         case.trace[at] = value;
-        list.expect(&case, 10, 0);
+        expect(list, &case, 10, 0);
     }
     for (at, side) in [
         (5, 0u16),
@@ -494,12 +480,12 @@ fn headers(list: &mut List, rng: &mut Rng) {
     ] {
         let mut case = of_three(rng);
         case.trace[at..at + 2].copy_from_slice(&side.to_le_bytes());
-        list.expect(&case, 1, 0);
+        expect(list, &case, 1, 0);
     }
     // planes padded for a picture that is refused stay as they are
     let mut case = of_three(rng);
     case.pic = [22, 12];
-    list.expect(&case, 0, 3);
+    expect(list, &case, 0, 3);
 
     let faults: [(u32, fn(&mut Case)); 4] = [
         (11, |case| case.trace.truncate(12)),
@@ -512,7 +498,7 @@ fn headers(list: &mut List, rng: &mut Rng) {
             let mut case = of_three(rng);
             second(&mut case);
             first(&mut case);
-            list.expect(&case, *code, 0);
+            expect(list, &case, *code, 0);
         }
     }
     // all that can be wrong in a whole header
@@ -520,7 +506,7 @@ fn headers(list: &mut List, rng: &mut Rng) {
     for (_, fault) in &faults[1..] {
         fault(&mut case);
     }
-    list.expect(&case, 10, 0);
+    expect(list, &case, 10, 0);
 }
 
 /// 4: every plane and the map, whatever the records need; 4 before all of a record's.
@@ -528,13 +514,13 @@ fn lengths(list: &mut List, rng: &mut Rng) {
     for plane in 0..9 {
         let mut case = of_three(rng);
         case.len[plane] -= 1;
-        list.expect(&case, 4, 0);
+        expect(list, &case, 4, 0);
     }
     for plane in [0, 5, 7] {
         let mut case = of_three(rng);
         case.len[plane] = 0;
         case.trace.truncate(HEADER_LEN);
-        list.expect(&case, 4, 0);
+        expect(list, &case, 4, 0);
     }
     // a list that no record uses, and a record that is refused
     for record in [
@@ -544,18 +530,18 @@ fn lengths(list: &mut List, rng: &mut Rng) {
         let mut case = of_three(rng);
         case.trace = trace(&some_header(), &[record]);
         case.len[3] -= 1;
-        list.expect(&case, 4, 0);
+        expect(list, &case, 4, 0);
     }
     // the header's picture needs more than was lent
     let mut case = of_three(rng);
     case.trace[5] = 36;
-    list.expect(&case, 4, 0);
+    expect(list, &case, 4, 0);
     for (has_col, len, code) in [(true, 59, 4), (true, 0, 4), (true, 61, 0), (false, 59, 0)] {
         let mut case = of_three(rng);
         let is_short = has_col && len < 60;
         case.has_col = has_col;
         case.map_len = len;
-        list.expect(&case, code, if is_short { 0 } else { 3 });
+        expect(list, &case, code, if is_short { 0 } else { 3 });
     }
 }
 
@@ -567,12 +553,12 @@ fn incomplete(list: &mut List, rng: &mut Rng) {
             case.trace.truncate(HEADER_LEN + n * RECORD_LEN);
             let next = record(&some_block(), 2, [[5, -3]; 2], [1, 2]).bytes();
             case.trace.extend(&next[..len]);
-            list.expect(&case, 11, n);
+            expect(list, &case, 11, n);
         }
     }
     let mut case = of_three(rng);
     case.trace.extend(&[255; 21]);
-    list.expect(&case, 11, 3);
+    expect(list, &case, 11, 3);
 }
 
 fn some_block() -> Block {
@@ -624,7 +610,7 @@ fn forms(list: &mut List, rng: &mut Rng) {
         let mut bytes = of_kind(kind);
         bytes[at] = value;
         between(&mut case, &some_header(), 1, &bytes, rng);
-        list.expect(&case, 12, 1);
+        expect(list, &case, 12, 1);
     }
     // a side of 12; a count of 32,769; a sample of 1024 where the record looks
     let later: [fn(&mut Case, &mut Vec<u8>); 3] = [
@@ -639,7 +625,7 @@ fn forms(list: &mut List, rng: &mut Rng) {
         for (last, code) in [(1, 12), (0, [2, 5, 6][k])] {
             bytes[LAST] = last;
             between(&mut case, &some_header(), 0, &bytes, rng);
-            list.expect(&case, code, 0);
+            expect(list, &case, code, 0);
         }
     }
 }
@@ -672,7 +658,7 @@ fn blocks(list: &mut List, rng: &mut Rng) {
             let count = if is_high { 32768 } else { 2 };
             let record = record(&b, kind, [[5, -3], [-6, 9]], [count; 2]);
             between(&mut case, &some_header(), 2, &record.bytes(), rng);
-            list.expect(&case, 2, 2);
+            expect(list, &case, 2, 2);
         }
     }
 }
@@ -690,7 +676,7 @@ fn counts(list: &mut List, rng: &mut Rng) {
     ] {
         let mut case = Case::exact(PIC, rng);
         between(&mut case, &some_header(), 2, &of_counts(kind, poc), rng);
-        list.expect(&case, 5, 2);
+        expect(list, &case, 5, 2);
     }
     for (poc, list_poc0) in [(32768, 1), (4, 65535)] {
         let high = header(PIC, poc, list_poc0);
@@ -702,7 +688,7 @@ fn counts(list: &mut List, rng: &mut Rng) {
                 ..case
             };
             case.trace.extend(of_counts(kind, [32767, 32767]));
-            list.expect(&case, code, if code == 5 { 3 } else { 4 });
+            expect(list, &case, code, if code == 5 { 3 } else { 4 });
         }
     }
     for kind in [2, 3] {
@@ -710,7 +696,7 @@ fn counts(list: &mut List, rng: &mut Rng) {
         case.limit = 65535;
         let bytes = of_counts(kind, [1, 32768]);
         between(&mut case, &some_header(), 0, &bytes, rng);
-        list.expect(&case, 5, 0);
+        expect(list, &case, 5, 0);
     }
 }
 
@@ -753,7 +739,7 @@ fn examined(list: &mut List, rng: &mut Rng) {
             .concat();
             case.trace = trace(&header(pic, 4, 1), &records);
             let is_refused = code == 6;
-            list.expect(&case, code, if is_refused { 2 } else { 5 });
+            expect(list, &case, code, if is_refused { 2 } else { 5 });
         }
     }
     for limit in [1026, 1026, 1027, 1030] {
@@ -762,6 +748,6 @@ fn examined(list: &mut List, rng: &mut Rng) {
         case.padded = false;
         let header = header(pic, 4, 1);
         case.trace = trace(&header, &random_records(&case, &header, &KINDS, 24, rng));
-        assert_eq!(list.push(&case).code, 6);
+        assert_eq!(push(list, &case).code, 6);
     }
 }

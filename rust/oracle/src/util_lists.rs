@@ -3,42 +3,50 @@
 //! 01 (`model`) answers. README.md has the layout.
 
 use crate::cases::{allowed_flags, blocks, neighbours, word, Rng, LIMITS};
+use crate::lists::{narrow, spaced, List};
 use crate::model::{self, Block, Candidates, Collocated, Mv, Pocs};
-use std::fmt::Write;
 
 // ---- records
 
-/// Twenty-four numbers of two bytes, low byte first.
-type Record = [u16; 24];
+/// Sixteen numbers of two bytes, low byte first.
+type Record = [u16; 16];
+
+/// The number returned, and all else that a call gives.
+type Answer = Vec<i32>;
 
 /// What a record can lend: the words and the motion of 16 units.
 const MAX_UNITS: usize = 16;
 const MAX_MOTION: usize = 4 * MAX_UNITS;
 
-/// The ends of 32 bits in two bytes: from 65,280 on, as far below 2^32 as below 2^16.
-pub(crate) fn narrow(n: u32) -> u16 {
-    assert!(n < 0xff00 || n >= 0xffff_ff00, "{n} has no two bytes");
-    n as u16
-}
-
-/// The numbers that every record begins with.
-fn record(b: &Block, code: u32) -> Record {
+/// The numbers that every record begins with; the first says which call it is.
+fn record(call: u16, b: &Block) -> Record {
     let [[pic_w, pic_h], [x, y], [w, h]] = [b.pic, b.place, b.side];
-    let mut r = [0; 24];
-    r[..7].copy_from_slice(&[pic_w, pic_h, x, y, w, h, code].map(narrow));
+    let mut r = [0; 16];
+    r[0] = call;
+    r[1..7].copy_from_slice(&[pic_w, pic_h, x, y, w, h].map(narrow));
     r
 }
 
-/// A call and the record of its answer.
+fn answer(code: u32, vectors: &[Mv]) -> Answer {
+    let numbers = vectors.iter().flatten().map(|v| i32::from(*v));
+    std::iter::once(code as i32).chain(numbers).collect()
+}
+
+/// A call.
 trait Case {
-    fn by_the_rust(&self) -> Record;
-    fn by_the_document(&self) -> Record;
+    fn record(&self) -> Record;
+    fn by_the_rust(&self) -> Answer;
+    fn by_the_document(&self) -> Answer;
 
     /// For accepted calls, on which the two agree.
-    fn agreed(&self) -> Record {
-        let r = self.by_the_rust();
-        assert_eq!(r, self.by_the_document(), "the Rust and document 01");
-        r
+    fn agreed(&self) -> (Record, Answer) {
+        let answer = self.by_the_rust();
+        assert_eq!(answer, self.by_the_document(), "the Rust and document 01");
+        (self.record(), answer)
+    }
+
+    fn documented(&self) -> (Record, Answer) {
+        (self.record(), self.by_the_document())
     }
 }
 
@@ -53,25 +61,26 @@ impl Flags {
         let states = self.states.iter().take(self.words_len);
         states.map(|state| word(*state)).collect()
     }
+}
 
-    fn record(&self, (code, avail): (u32, u16)) -> Record {
-        let mut r = record(&self.b, code);
+impl Case for Flags {
+    fn record(&self) -> Record {
+        let mut r = record(0, &self.b);
         r[7] = self.words_len as u16;
         for (k, pair) in self.states.chunks_exact(2).enumerate() {
             r[8 + k] = u16::from_le_bytes([pair[0], pair[1]]);
         }
-        r[16] = avail;
         r
     }
-}
 
-impl Case for Flags {
-    fn by_the_rust(&self) -> Record {
-        self.record((0, crate::evc_get_avail_inter(&self.b, &self.words())))
+    fn by_the_rust(&self) -> Answer {
+        let avail = crate::evc_get_avail_inter(&self.b, &self.words());
+        vec![0, i32::from(avail)]
     }
 
-    fn by_the_document(&self) -> Record {
-        self.record(model::flags(&self.b, &self.words()))
+    fn by_the_document(&self) -> Answer {
+        let (code, avail) = model::flags(&self.b, &self.words());
+        vec![code as i32, i32::from(avail)]
     }
 }
 
@@ -106,17 +115,11 @@ impl Motion {
         }
     }
 
-    fn record(&self, b: &Block, code: u32) -> Record {
-        let mut r = record(b, code);
+    fn record(&self, call: u16, b: &Block) -> Record {
+        let mut r = record(call, b);
         let Motion { seed, step, .. } = *self;
         r[7..11].copy_from_slice(&[self.is_present.into(), self.col_len as u16, seed, step]);
         r
-    }
-}
-
-fn put_vectors(r: &mut [u16], vectors: &[Mv]) {
-    for (to, v) in r.iter_mut().zip(vectors.concat()) {
-        *to = v as u16;
     }
 }
 
@@ -129,37 +132,38 @@ struct Candidate {
     map_len: usize,
 }
 
-impl Candidate {
-    fn record(&self, (code, answer): (u32, Candidates)) -> Record {
-        let mut r = self.motion.record(&self.b, code);
-        r[11..14].copy_from_slice(&[narrow(self.lidx), self.avail, self.map_len as u16]);
-        put_vectors(&mut r[14..22], &answer.mv);
-        let [a, b, c, d] = answer.refi.map(|refi| refi as u8);
-        r[22..].copy_from_slice(&[[a, b], [c, d]].map(u16::from_le_bytes));
-        r
-    }
+/// The four vectors, and the four reference numbers.
+fn candidates_answer(code: u32, candidates: Candidates) -> Answer {
+    let mut numbers = answer(code, &candidates.mv);
+    numbers.extend(candidates.refi.map(i32::from));
+    numbers
 }
 
 impl Case for Candidate {
-    fn by_the_rust(&self) -> Record {
+    fn record(&self) -> Record {
+        let mut r = self.motion.record(1, &self.b);
+        r[11..14].copy_from_slice(&[narrow(self.lidx), self.avail, self.map_len as u16]);
+        r
+    }
+
+    fn by_the_rust(&self) -> Answer {
         let (map, col_map) = (self.motion.numbers(0, self.map_len), self.motion.col_map());
         let col = self.motion.is_present.then(|| &col_map[..]);
         let old = self.motion.old();
         let lidx = self.lidx as usize;
-        let answer = crate::evc_get_motion(&self.b, lidx, self.avail, &map, col, None, old);
-        self.record((0, answer))
+        let candidates = crate::evc_get_motion(&self.b, lidx, self.avail, &map, col, None, old);
+        candidates_answer(0, candidates)
     }
 
-    fn by_the_document(&self) -> Record {
+    fn by_the_document(&self) -> Answer {
         let (map, col_map) = (self.motion.numbers(0, self.map_len), self.motion.col_map());
         let col = Collocated {
             is_present: self.motion.is_present,
             map: &col_map,
         };
         let old = self.motion.old();
-        self.record(model::candidates(
-            &self.b, self.lidx, self.avail, &map, col, old,
-        ))
+        let (code, candidates) = model::candidates(&self.b, self.lidx, self.avail, &map, col, old);
+        candidates_answer(code, candidates)
     }
 }
 
@@ -180,28 +184,28 @@ impl Direct {
             list_poc0,
         }
     }
-
-    fn record(&self, (code, answer): (u32, [Mv; 2])) -> Record {
-        let mut r = self.motion.record(&self.b, code);
-        r[11..15].copy_from_slice(&self.counts.map(narrow));
-        put_vectors(&mut r[15..19], &answer);
-        r
-    }
 }
 
 impl Case for Direct {
-    fn by_the_rust(&self) -> Record {
-        let col_map = self.motion.col_map();
-        let col = self.motion.is_present.then(|| &col_map[..]);
-        self.record((0, crate::evc_get_mv_dir(&self.b, self.pocs(), col, None)))
+    fn record(&self) -> Record {
+        let mut r = self.motion.record(2, &self.b);
+        r[11..15].copy_from_slice(&self.counts.map(narrow));
+        r
     }
 
-    fn by_the_document(&self) -> Record {
+    fn by_the_rust(&self) -> Answer {
+        let col_map = self.motion.col_map();
+        let col = self.motion.is_present.then(|| &col_map[..]);
+        answer(0, &crate::evc_get_mv_dir(&self.b, self.pocs(), col, None))
+    }
+
+    fn by_the_document(&self) -> Answer {
         let col = Collocated {
             is_present: self.motion.is_present,
             map: &self.motion.col_map(),
         };
-        self.record(model::direct(&self.b, self.pocs(), col))
+        let (code, vectors) = model::direct(&self.b, self.pocs(), col);
+        answer(code, &vectors)
     }
 }
 
@@ -555,40 +559,27 @@ fn bad_direct() -> Vec<Direct> {
 
 // ---- files
 
-/// A list is a record with their number and the records.
-fn list(records: Vec<Record>) -> Vec<u8> {
-    let mut head = [0; 24];
-    head[0] = records.len() as u16;
-    let all = std::iter::once(&head).chain(&records);
-    all.flat_map(|r| r.iter().flat_map(|n| n.to_le_bytes()))
-        .collect()
-}
-
-/// The three lists as the input of the program, and what it is to print.
-fn program(lists: [Vec<Record>; 3]) -> [Vec<u8>; 2] {
-    let mut answers = String::new();
-    let mut records = Vec::new();
-    for (name, each) in ["flags", "candidates", "direct"].iter().zip(lists) {
-        writeln!(answers, "{name} {} agree 0 differ", each.len()).unwrap();
-        records.extend(list(each));
+fn program(calls: Vec<(Record, Answer)>) -> [Vec<u8>; 2] {
+    let mut list = List::default();
+    for (record, answer) in calls {
+        list.record(&record);
+        list.answer(&spaced(&answer));
     }
-    [records, answers.into_bytes()]
+    list.done()
 }
 
 /// Records and answers of accepted calls, by the Rust.
 pub fn accepted() -> [Vec<u8>; 2] {
-    program([
-        flags().iter().map(Case::agreed).collect(),
-        candidates().iter().map(Case::agreed).collect(),
-        direct().iter().map(Case::agreed).collect(),
-    ])
+    let mut calls: Vec<_> = flags().iter().map(Case::agreed).collect();
+    calls.extend(candidates().iter().map(Case::agreed));
+    calls.extend(direct().iter().map(Case::agreed));
+    program(calls)
 }
 
 /// Records and answers of refusals and of the accepted calls next to them, by document 01.
 pub fn bad() -> [Vec<u8>; 2] {
-    program([
-        bad_flags().iter().map(Case::by_the_document).collect(),
-        bad_candidates().iter().map(Case::by_the_document).collect(),
-        bad_direct().iter().map(Case::by_the_document).collect(),
-    ])
+    let mut calls: Vec<_> = bad_flags().iter().map(Case::documented).collect();
+    calls.extend(bad_candidates().iter().map(Case::documented));
+    calls.extend(bad_direct().iter().map(Case::documented));
+    program(calls)
 }

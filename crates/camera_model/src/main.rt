@@ -1,3 +1,0 @@
-fn main() {
-    camera_text::run();
-}

@@ -1,3 +1,0 @@
-fn main() {
-    mc2_text::run();
-}

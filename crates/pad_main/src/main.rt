@@ -1,3 +1,0 @@
-fn main() {
-    pad_text::run(true);
-}
