@@ -48,7 +48,7 @@ pub fn is_one(r: &[u8], k: usize) -> bool
     number(r, k) == 1
 }
 
-pub fn kind(r: &[u8], k: usize) -> PlaneType
+pub fn plane_type(r: &[u8], k: usize) -> PlaneType
     requires { ⌜ 2 * k + 2 ≤ length (now r) ⌝ }
 {
     if is_one(r, k) {
@@ -165,7 +165,7 @@ fn set_sample(plane: &mut [u16], place: usize, value: u16) {
 }
 
 // Padded, if it is to be and is long enough.
-fn fill_plane(plane: &mut [u16], r: &[u8], t: PlaneType, seed: u32)
+fn fill_padded(plane: &mut [u16], r: &[u8], t: PlaneType, seed: u32)
     requires { ⌜ (30 ≤ length (now r)) × (seed < 2147483648) ⌝ }
 {
     fill(plane, seed, number(r, LIMIT));
@@ -175,10 +175,10 @@ fn fill_plane(plane: &mut [u16], r: &[u8], t: PlaneType, seed: u32)
 }
 
 // Plane k of the six.
-fn make_lent(plane: &mut [u16], r: &[u8], t: PlaneType, k: u16, seed: u32)
+fn fill_plane(plane: &mut [u16], r: &[u8], t: PlaneType, k: u16, seed: u32)
     requires { ⌜ (30 ≤ length (now r)) × (seed < 2147483648) ⌝ }
 {
-    fill_plane(plane, r, t, seed);
+    fill_padded(plane, r, t, seed);
     if number(r, SET_PLANE) == k {
         set_sample(plane, number(r, SET_PLACE) as usize, number(r, SET_VALUE));
     }
@@ -189,7 +189,7 @@ fn make_plane(planes: &mut [u16], r: &[u8], t: PlaneType, k: u16, seed: u32)
 {
     let from = MAX_PLANE_LEN * k as usize;
     let to = from + lent(r, PLANE_LEN + k as usize, MAX_PLANE_LEN);
-    make_lent(&mut planes[from..to], r, t, k, seed);
+    fill_plane(&mut planes[from..to], r, t, k, seed);
 }
 
 // Each plane from the next seed on.

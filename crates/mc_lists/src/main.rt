@@ -47,7 +47,7 @@ type Call = [u8; CALL_RECORD_LEN];
 
 fn predict(p: &Plane, plane: &[u16], r: &Call, pred: &mut [u16]) -> u32 {
     evc_interp::evc_mc_plane(
-        evc_lists::kind(p, IS_CHROMA),
+        evc_lists::plane_type(p, IS_CHROMA),
         evc_lists::number(p, PIC_W) as u32,
         evc_lists::number(p, PIC_H) as u32,
         evc_lists::vector(r, ORI_MV),
@@ -103,7 +103,7 @@ fn fill_plane(p: &Plane, plane: &mut [u16]) {
     );
     if evc_lists::is_one(p, IS_PADDED) {
         evc_plane::pad(
-            evc_lists::kind(p, IS_CHROMA),
+            evc_lists::plane_type(p, IS_CHROMA),
             evc_lists::number(p, PIC_W) as u32,
             evc_lists::number(p, PIC_H) as u32,
             plane,
