@@ -170,7 +170,7 @@ fn fill_padded(plane: &mut [u16], r: &[u8], t: PlaneType, seed: u32)
 {
     fill(plane, seed, number(r, LIMIT));
     if is_one(r, IS_PADDED) {
-        evc_plane::pad(t, number32(r, PIC_W), number32(r, PIC_H), plane);
+        evc_pad::pad(t, number32(r, PIC_W), number32(r, PIC_H), plane);
     }
 }
 

@@ -102,7 +102,7 @@ fn fill_plane(p: &Plane, plane: &mut [u16]) {
         evc_lists::number(p, LIMIT),
     );
     if evc_lists::is_one(p, IS_PADDED) {
-        evc_plane::pad(
+        evc_pad::pad(
             evc_lists::plane_type(p, IS_CHROMA),
             evc_lists::number(p, PIC_W) as u32,
             evc_lists::number(p, PIC_H) as u32,

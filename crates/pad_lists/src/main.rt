@@ -64,7 +64,7 @@ fn fill_plane(r: &Record, plane: &mut [u16]) {
 }
 
 fn pad(r: &Record, plane: &mut [u16]) -> u32 {
-    evc_plane::pad(
+    evc_pad::pad(
         evc_lists::plane_type(r, IS_CHROMA),
         evc_lists::number(r, PIC_W) as u32,
         evc_lists::number(r, PIC_H) as u32,

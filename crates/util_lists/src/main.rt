@@ -3,11 +3,11 @@ ghost use Prim.Native.Nat.{_≤_, _<_};
 ghost use lib.ListN.{length};
 use evc_def::EvcBlock;
 use evc_def::EvcMv;
+use evc_direct::EvcDirect;
+use evc_direct::Pocs;
 use evc_lists::MAX_RECORDS;
-use evc_util::EvcCandidates;
-use evc_util::EvcDirect;
-use evc_util::Motion;
-use evc_util::Pocs;
+use evc_motion::EvcCandidates;
+use evc_motion::Motion;
 
 const RECORD_LEN: usize = 32;
 
@@ -53,7 +53,7 @@ fn run_flags(r: &Record) {
     let mut words = [0u32; MAX_WORDS];
     fill_words(&mut words, r);
     let n = evc_lists::lent(r, WORDS_LEN, MAX_WORDS);
-    let got = evc_util::evc_get_avail_inter(block_of(r), &words[..n]);
+    let got = evc_avail::evc_get_avail_inter(block_of(r), &words[..n]);
     evc_lists::print(got.code as u64);
     evc_lists::print_next(got.avail as u64);
 }
@@ -155,7 +155,7 @@ fn get_motion(r: &Record, map: &[i16], col: &[i16]) -> Motion {
     let lidx = evc_lists::number32(r, LIDX);
     let avail = evc_lists::number(r, AVAIL);
     let has_col = evc_lists::is_one(r, HAS_COL);
-    evc_util::get_motion(block_of(r), lidx, avail, map, has_col, col, old_of(r))
+    evc_motion::get_motion(block_of(r), lidx, avail, map, has_col, col, old_of(r))
 }
 
 fn run_candidates(r: &Record) {
@@ -189,7 +189,7 @@ fn print_direct(got: EvcDirect) {
 
 fn get_direct(r: &Record, col: &[i16]) -> EvcDirect {
     let has_col = evc_lists::is_one(r, HAS_COL);
-    evc_util::evc_get_mv_dir(block_of(r), pocs_of(r), has_col, col)
+    evc_direct::evc_get_mv_dir(block_of(r), pocs_of(r), has_col, col)
 }
 
 fn run_direct(r: &Record) {
