@@ -6,10 +6,10 @@ use native.Mathlib.Omega.{arith}
 use lib.ListN.{length}
 use Rattle.evc_int.specs.Lists.{withRow, withBlock}
 use Rattle.evc_int.proofs.Lists.{row-fits, block-step, block-done}
-use Rattle.evc_lanes.specs.Code.{Row}
+use Rattle.evc_lanes.specs.Inner.{Row}
 use Rattle.evc_filter.specs.declared.Offsets.{Offsets}
 use Rattle.evc_filter.specs.declared.Taps.{Taps}
-use Rattle.evc_blocks.specs.Code.{Rows}
+use Rattle.evc_blocks.specs.Inner.{Rows}
 
 -- ---- what rows ask of each row
 

@@ -4,9 +4,9 @@ ghost use mathlib.Core.Logic.{_⊎_};
 ghost use Prim.Native.Nat.{ℕ, _+_, _*_, _<_, _≤_};
 ghost use lib.ListN.{length};
 ghost use Rattle.evc_int.specs.Lists.{withBlock};
-ghost use Rattle.evc_filter.specs.Code.{firstAt, singleAt, secondAt};
-ghost use Rattle.evc_lanes.specs.Code.{isRowWidth};
-ghost use Rattle.evc_blocks.specs.Code.{Rows};
+ghost use Rattle.evc_filter.specs.Inner.{firstAt, singleAt, secondAt};
+ghost use Rattle.evc_lanes.specs.Inner.{isRowWidth};
+ghost use Rattle.evc_blocks.specs.Inner.{Rows};
 use evc_filter::Offsets;
 use evc_filter::Taps;
 

@@ -5,7 +5,7 @@ use mathlib.Core.Path.{_≡_, refl, sym, _∙_}
 use native.Mathlib.Nat.{add-zero, add-suc, suc-add}
 use lib.ListN.{length, set}
 use lib.Seq.{sets}
-use Rattle.evc_bytes.specs.Code.{written}
+use Rattle.evc_bytes.specs.Inner.{written}
 
 pub stored : (d : List ℕ) (at b : ℕ) → set d at b ≡ written d at (b ∷ [])
 unfolding written

@@ -6,7 +6,7 @@ ghost use lib.ListN.{length};
 ghost use Rattle.evc_int.specs.Whole.{_modulo_};
 ghost use Rattle.evc_int.specs.LowBits.{signed16};
 ghost use Rattle.evc_bytes.specs.Bytes.{bytesOf, numberAt};
-ghost use Rattle.evc_bytes.specs.Code.{written};
+ghost use Rattle.evc_bytes.specs.Inner.{written};
 
 // ---- reading
 

@@ -15,7 +15,7 @@ use Rattle.evc_def.specs.declared.EvcMv.{EvcMv}
 use Rattle.evc_map.specs.Maps.{mostUnits, wordAt, mvAt}
 use Rattle.evc_camera.specs.declared.Sums.{Sums}
 use Rattle.evc_camera.specs.Camera.{isCounted, withMv, sumsOf}
-use Rattle.evc_camera.specs.Code.{Within}
+use Rattle.evc_camera.specs.Inner.{Within}
 
 -- a unit counts by its word
 pub counted-at : (words : List ℕ) (i word : ℕ) (r : Bool) → word ≡ wordAt words i → r ≡ (isCoded word && not (isIntra word)) → r ≡ isCounted words i

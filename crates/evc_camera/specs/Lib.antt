@@ -1,2 +1,2 @@
 pub mod Camera
-pub mod Code
+pub mod Inner

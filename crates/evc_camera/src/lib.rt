@@ -6,7 +6,7 @@ ghost use lib.IntN.{pos, natAbs, _+ℤ_};
 ghost use Rattle.evc_def.specs.Codes.{firstOf};
 ghost use Rattle.evc_map.specs.Maps.{mostUnits, mvLen};
 ghost use Rattle.evc_camera.specs.Camera.{withMv, sumsOf, meanOf, motionOf, answer, cameraChecks, cameraMotion};
-ghost use Rattle.evc_camera.specs.Code.{Within, AllCounted};
+ghost use Rattle.evc_camera.specs.Inner.{Within, AllCounted};
 use evc_def::EvcMv;
 use evc_def::Scu;
 

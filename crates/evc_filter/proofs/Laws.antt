@@ -11,7 +11,7 @@ use Rattle.evc_int.proofs.Machine.{fit}
 use Rattle.evc_plane.specs.declared.PlaneType.{PlaneType}
 use Rattle.evc_plane.specs.declared.PlaneType.the-variants.{Y, UV}
 use Rattle.evc_filter.specs.Filter.{taps, phases, reach, tapSum, rowStage}
-use Rattle.evc_filter.specs.Code.{tapsOf, offsetsOf, Bounded, firstAt}
+use Rattle.evc_filter.specs.Inner.{tapsOf, offsetsOf, Bounded, firstAt}
 use Rattle.evc_filter.proofs.Tables.{shape, pOf, qOf, xOf, yOf}
 use Rattle.evc_filter.proofs.Sums.{balance, taps-small, first-most, first-is}
 

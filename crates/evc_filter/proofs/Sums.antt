@@ -13,7 +13,7 @@ use Rattle.evc_int.proofs.Division.{is-shr}
 use Rattle.evc_plane.specs.declared.PlaneType.{PlaneType}
 use Rattle.evc_plane.specs.declared.PlaneType.the-variants.{Y, UV}
 use Rattle.evc_filter.specs.Filter.{taps, phases, reach, tapSum, clipSample, firstStage, along, interpolated, rowStage, interpolatedTwice}
-use Rattle.evc_filter.specs.Code.{tapsOf, Small, secondSum, finished, offsetsOf, Ordered, Bounded, firstAt, singleAt, secondAt}
+use Rattle.evc_filter.specs.Inner.{tapsOf, Small, secondSum, finished, offsetsOf, Ordered, Bounded, firstAt, singleAt, secondAt}
 use Rattle.evc_filter.specs.declared.Offsets.{Offsets}
 use Rattle.evc_filter.specs.declared.Taps.{Taps}
 use Rattle.evc_filter.proofs.Tables.{plus, minus, pOf, qOf, xOf, yOf, shape}

@@ -10,7 +10,7 @@ use Rattle.evc_int.specs.Whole.{_⁺, _⁻}
 use Rattle.evc_plane.specs.declared.PlaneType.{PlaneType}
 use Rattle.evc_plane.specs.declared.PlaneType.the-variants.{Y, UV}
 use Rattle.evc_filter.specs.Filter.{taps, phases, reach}
-use Rattle.evc_filter.specs.Code.{tapsOf, Small}
+use Rattle.evc_filter.specs.Inner.{tapsOf, Small}
 use Rattle.evc_filter.specs.declared.Taps.{Taps}
 
 -- ---- a rule that is computed at each of n numbers

@@ -4,7 +4,7 @@ ghost use lib.ListN.{length, getD};
 ghost use mathlib.Core.Bool.{cond};
 ghost use lib.Dec.{ltb};
 ghost use Rattle.evc_filter.specs.Filter.{phases};
-ghost use Rattle.evc_filter.specs.Code.{tapsOf, offsetsOf, Small, firstSum, wholeSum, secondSum, finished, Under, firstAt, singleAt, secondAt};
+ghost use Rattle.evc_filter.specs.Inner.{tapsOf, offsetsOf, Small, firstSum, wholeSum, secondSum, finished, Under, firstAt, singleAt, secondAt};
 use evc_plane::PlaneType;
 
 // The sizes of a filter's taps, for sums a p - b q + 2 c x + 2 d y of 16 bits.

@@ -1,2 +1,2 @@
-pub mod Code
+pub mod Inner
 pub mod Kinds

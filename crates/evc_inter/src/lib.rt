@@ -9,7 +9,7 @@ ghost use Rattle.evc_motion.specs.Candidates.{getMotion};
 ghost use Rattle.evc_pad.specs.Padding.{padCode, padAfter};
 ghost use Rattle.evc_interp.specs.Prediction.{mcPlaneCode, mcPlaneAfter};
 ghost use Rattle.evc_mc.specs.Block.{refPicList, mc2Code, mc2First, mc2Second};
-ghost use Rattle.evc_inter.specs.Code.{zeroCandidates};
+ghost use Rattle.evc_inter.specs.Inner.{zeroCandidates};
 ghost use Rattle.evc_inter.specs.Kinds.{planeType};
 ghost use Rattle.evc_camera.specs.Camera.{cameraMotion};
 ghost use Rattle.evc_trace.specs.declared.TraceHeader.{TraceHeader};

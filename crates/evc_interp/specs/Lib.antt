@@ -1,2 +1,2 @@
 pub mod Prediction
-pub mod Code
+pub mod Inner

@@ -11,7 +11,7 @@ ghost use Rattle.evc_plane.specs.Planes.{planeLen};
 ghost use Rattle.evc_filter.specs.Filter.{lead, reach};
 ghost use Rattle.evc_interp.specs.Prediction.{phaseOf, pelOf, isFiltered, startOf, windowOf, isSide, windowExceeds, mcPlaneCode, mcPlaneAfter};
 ghost use Rattle.evc_interp.specs.declared.Position.{Position};
-ghost use Rattle.evc_interp.specs.Code.{positionOf, Readable, sampleFrom};
+ghost use Rattle.evc_interp.specs.Inner.{positionOf, Readable, sampleFrom};
 use evc_def::EvcMv;
 use evc_def::Pel;
 use evc_def::Qpel;

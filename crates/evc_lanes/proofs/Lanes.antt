@@ -9,10 +9,10 @@ use lib.Dec.{T, eqb, leb, leb→le, eqb→eq}
 use mir.Facts.{and-yes}
 use lib.ListN.{set}
 use Rattle.evc_int.specs.Lists.{withRow}
-use Rattle.evc_filter.specs.Code.{Under}
+use Rattle.evc_filter.specs.Inner.{Under}
 use Rattle.evc_filter.specs.declared.Offsets.{Offsets}
 use Rattle.evc_filter.specs.declared.Taps.{Taps}
-use Rattle.evc_lanes.specs.Code.{isRowWidth, Row}
+use Rattle.evc_lanes.specs.Inner.{isRowWidth, Row}
 
 module _ (d : List ℕ) (to : ℕ) (f : ℕ → ℕ) where
   pub two-lanes : (a b : ℕ) → a ≡ f 0 → b ≡ f 1 → set (set d to a) (to + 1) b ≡ withRow d to 2 f

@@ -22,7 +22,7 @@ use Rattle.evc_plane.specs.declared.PlaneType.the-variants.{Y, UV}
 use Rattle.evc_clip.specs.Clip.{clippedPlace}
 use Rattle.evc_interp.specs.Prediction.{isSide, windowExceeds, mcPlaneCode}
 use Rattle.evc_mc.specs.Block.{RefPicList, Component, luma, cb, cr, typeOf, planeOf, widthOf, heightOf, componentExceeds, listShort, listExceeds, predLen, mc2Code}
-use Rattle.evc_mc.specs.Steps.{Examined, ListExamined}
+use Rattle.evc_mc.specs.Inner.{Examined, ListExamined}
 
 -- ---- the block
 

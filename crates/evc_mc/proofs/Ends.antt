@@ -12,7 +12,7 @@ use types.Kit.{Given, ‵, raw, _⊛_, _$_, _∵_, !, qed, by, move, keep, drop,
 use denote.Builtin.{u16}
 use denote.Ref.{RefT}
 use denote.Slice.{MutSlice, finally, res-finally, codedHoleys, heres}
-use Rattle.evc_mc.specs.Ends.{endsAs, onceEnded}
+use Rattle.evc_mc.specs.Inner.{endsAs, onceEnded}
 
 module _ {M : Type 1} (𝓤 : URA M) (H : Heap 𝓤) (A : Atoms 𝓤) (W : Given 𝓤 H A) (κ : Lft) where
   -- a slice that is given up ends as it is

@@ -10,7 +10,7 @@ use Rattle.evc_def.specs.Codes.{firstOf, blockChecks}
 use Rattle.evc_def.specs.declared.EvcBlock.{EvcBlock}
 use Rattle.evc_interp.proofs.Windows.{accepts, predicted-small}
 use Rattle.evc_mc.specs.Block.{RefPicList, Component, typeOf, planeOf, widthOf, heightOf, withSamples, listSample, firstSample, sameMotion, isBi, average, listShort, listExceeds, predLen}
-use Rattle.evc_mc.specs.Steps.{withList, blockSample, BlockSmall}
+use Rattle.evc_mc.specs.Inner.{withList, blockSample, BlockSmall}
 use Rattle.evc_mc.proofs.Checks.{Sides, sides, plane-accepted, list-examined}
 use Rattle.evc_mc.proofs.Samples.{component-room, component-end, samples-at, samples-ext, samples-again}
 

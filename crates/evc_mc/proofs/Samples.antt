@@ -9,7 +9,7 @@ use lib.ListN.{length, getD}
 use Rattle.evc_int.proofs.Lists.{length-withBlock, withBlock-ext, withBlock-in, row-fits, withBlock-again, withBlock-apart, withBlock-before}
 use Rattle.evc_def.specs.declared.EvcBlock.{EvcBlock}
 use Rattle.evc_mc.specs.Block.{Component, luma, cb, cr, offsetOf, widthOf, heightOf, withComponent, withSamples, predLen}
-use Rattle.evc_mc.specs.Steps.{blockSample}
+use Rattle.evc_mc.specs.Inner.{blockSample}
 use Rattle.evc_mc.proofs.Checks.{Sides}
 
 -- where a component ends

@@ -1,3 +1,2 @@
 pub mod Block
-pub mod Steps
-pub mod Ends
+pub mod Inner

@@ -13,11 +13,11 @@ use Rattle.evc_int.specs.Lists.{withRow, withBlock}
 use Rattle.evc_int.proofs.Lists.{row-fits, length-withBlock, withRow-ext, withRow-join, withBlock-ext, withBlock-in, withBlock-run, columns-step}
 use Rattle.evc_int.proofs.Whole.{Is}
 use Rattle.evc_filter.specs.Filter.{phases, reach, interpolated, rowStage, interpolatedTwice}
-use Rattle.evc_filter.specs.Code.{tapsOf, offsetsOf, Bounded, firstAt, singleAt, secondAt}
+use Rattle.evc_filter.specs.Inner.{tapsOf, offsetsOf, Bounded, firstAt, singleAt, secondAt}
 use Rattle.evc_filter.proofs.Sums.{taps-small, offsets-ordered, first-is, single-is, second-is, first-most}
-use Rattle.evc_lanes.specs.Code.{isRowWidth}
+use Rattle.evc_lanes.specs.Inner.{isRowWidth}
 use Rattle.evc_lanes.proofs.Lanes.{eights, by-width}
-use Rattle.evc_blocks.specs.Code.{Rows}
+use Rattle.evc_blocks.specs.Inner.{Rows}
 use Rattle.evc_plane.specs.Planes.{sideOf}
 use Rattle.evc_plane.specs.declared.PlaneType.{PlaneType}
 use Rattle.evc_plane.specs.declared.PlaneType.the-variants.{Y, UV}

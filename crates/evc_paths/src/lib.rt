@@ -6,7 +6,7 @@ ghost use lib.ListN.{length, getD};
 ghost use Rattle.evc_int.specs.Lists.{withRow, withBlock};
 ghost use Rattle.evc_plane.specs.Planes.{sideOf};
 ghost use Rattle.evc_filter.specs.Filter.{phases, reach, interpolated, interpolatedTwice};
-ghost use Rattle.evc_lanes.specs.Code.{isRowWidth};
+ghost use Rattle.evc_lanes.specs.Inner.{isRowWidth};
 ghost use Rattle.evc_paths.specs.Inner.{Within};
 use evc_plane::PlaneType;
 

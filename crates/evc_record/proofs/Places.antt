@@ -22,8 +22,8 @@ use Rattle.evc_plane.proofs.Sizes.{Room, room, sizes-of}
 use Rattle.evc_int.proofs.Bools.{none-true}
 use Rattle.evc_int.proofs.Lists.{withRow-ext, withBlock-ext, length-withBlock}
 use Rattle.evc_mc.specs.Block.{Component, typeOf, widthOf, heightOf, offsetOf, predLen}
-use Rattle.evc_mc.specs.Steps.{blockSample}
-use Rattle.evc_lanes.specs.Code.{isRowWidth}
+use Rattle.evc_mc.specs.Inner.{blockSample}
+use Rattle.evc_lanes.specs.Inner.{isRowWidth}
 use Rattle.evc_interp.proofs.Windows.{side}
 use Rattle.evc_mc.proofs.Checks.{sides, plane-side}
 use Rattle.evc_mc.proofs.Samples.{component-room, component-end}

@@ -12,7 +12,7 @@ use Rattle.evc_def.specs.declared.EvcBlock.{EvcBlock}
 use Rattle.evc_def.proofs.Codes.{accepted}
 use Rattle.evc_direct.specs.declared.EvcDirect.{EvcDirect}
 use Rattle.evc_mc.specs.Block.{RefPicList, refPicList, Component, luma, cb, cr, withSamples, firstSample, predLen, mc2Code, mc2First}
-use Rattle.evc_mc.specs.Steps.{blockSample}
+use Rattle.evc_mc.specs.Inner.{blockSample}
 use Rattle.evc_mc.specs.declared.EvcList.{EvcList}
 use Rattle.evc_mc.proofs.Checks.{accepts, sides}
 use Rattle.evc_mc.proofs.Samples.{samples-at}
@@ -20,7 +20,7 @@ use Rattle.evc_trace.specs.Format.{countLen, recordOf}
 use Rattle.evc_trace.specs.declared.TraceHeader.{TraceHeader}
 use Rattle.evc_trace.specs.declared.EvcTraceRecord.{EvcTraceRecord}
 use Rattle.evc_record.specs.Record.{Planes, planes, Source, source, blockOf, motionOf, list0Of, list1Of, withPlanes, blank, formCode, blockCode, recordCode, withPicture, planeAfter, targetAfter}
-use Rattle.evc_record.specs.Steps.{afterRecord}
+use Rattle.evc_record.specs.Inner.{afterRecord}
 use Rattle.evc_record.proofs.Places.{picture-ext}
 
 module _ (b : EvcBlock) (l m : RefPicList) (p q : List ℕ) (ep : length p ≡ predLen) (eq : length q ≡ predLen) where

@@ -1,2 +1,2 @@
 pub mod Record
-pub mod Steps
+pub mod Inner

@@ -8,7 +8,7 @@ use borrow.Author.Tests.{ne-eqb}
 use lib.Dec.{eqb}
 use lib.ListN.{length, take, drop, length-take, length-drop}
 use Rattle.evc_record.specs.Record.{Planes, Source, _orElse_, formCode, recordCode, targetAfter}
-use Rattle.evc_record.specs.Steps.{afterRecord}
+use Rattle.evc_record.specs.Inner.{afterRecord}
 use Rattle.evc_replay.specs.Replay.{Replayed, recordsAt, recordsFrom, applied}
 use Rattle.evc_record.proofs.Steps.{whole-record}
 

@@ -7,7 +7,7 @@ use native.Mathlib.Omega.{arith}
 use native.Mathlib.Numerals.{add-one}
 use lib.ListN.{getD}
 use Rattle.evc_samples.specs.Samples.{tooLarge, rowExceeds}
-use Rattle.evc_samples.specs.Code.{quadExceeds, octExceeds}
+use Rattle.evc_samples.specs.Inner.{quadExceeds, octExceeds}
 use Rattle.evc_samples.specs.declared.Quad.{Quad}
 use Rattle.evc_samples.specs.declared.Oct.{Oct}
 

@@ -1,2 +1,2 @@
 pub mod Samples
-pub mod Code
+pub mod Inner

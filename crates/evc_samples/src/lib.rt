@@ -3,7 +3,7 @@ ghost use mathlib.Core.Bool.{_||_};
 ghost use Prim.Native.Nat.{_+_, _*_, _<_, _≤_};
 ghost use lib.ListN.{length, getD};
 ghost use Rattle.evc_samples.specs.Samples.{tooLarge, rowExceeds, exceeds};
-ghost use Rattle.evc_samples.specs.Code.{octExceeds, quadExceeds};
+ghost use Rattle.evc_samples.specs.Inner.{octExceeds, quadExceeds};
 use evc_def::MAX_SAMPLE_VAL;
 
 // The test at a sample: above 1023 exactly if a bit from 10 up is set, so samples are gathered by an OR.

@@ -7,7 +7,7 @@ use native.Mathlib.Omega.{arith}
 use borrow.Author.Tests.{ne-eqb}
 use lib.ListN.{length}
 use lib.Seq.{sets-eq}
-use Rattle.evc_bytes.specs.Code.{written}
+use Rattle.evc_bytes.specs.Inner.{written}
 use Rattle.evc_trace.specs.Format.{overwritten, overwrittenBy}
 
 pub from-start : (d f bytes : List ℕ) → f ≡ written d 0 bytes → length bytes ≤ length d → f ≡ overwritten bytes d

@@ -5,7 +5,7 @@ ghost use Prim.Native.Nat.{_+_, _≤_};
 ghost use lib.ListN.{length};
 ghost use Rattle.evc_def.specs.Blocks.{badPicture};
 ghost use Rattle.evc_bytes.specs.Bytes.{bytesOf};
-ghost use Rattle.evc_bytes.specs.Code.{written};
+ghost use Rattle.evc_bytes.specs.Inner.{written};
 ghost use Rattle.evc_trace.specs.Format.{version, countLen, headerLen, mark, headerBytes, isTrace, headerOf, overwritten, writeHeaderCode, writeHeaderAfter};
 ghost use Rattle.evc_trace.specs.Format.{recordLen, mvOf, mvBytes, recordBytes, recordOf, isZeroMv, isWellFormed, writeRecordCode, writeRecordAfter};
 ghost use Rattle.evc_trace.specs.declared.TraceHeader.{TraceHeader};

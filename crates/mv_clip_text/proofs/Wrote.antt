@@ -6,7 +6,7 @@ use native.Mathlib.Numerals.{add-one}
 use native.Mathlib.Omega.{arith}
 use lib.ListN.{length, take, set, length-append, length-set, length-take}
 use lib.Seq.{take-suc-set}
-use Rattle.mv_clip_text.specs.Wrote.{Wrote}
+use Rattle.mv_clip_text.specs.Inner.{Wrote}
 
 pub wrote-nothing : (a : List ℕ) (at : ℕ) → Wrote a a at at []
 wrote-nothing a at = record { long = refl; ends = omega arith; holds = sym (append-nil (take at a)) }

@@ -1,3 +1,3 @@
 pub mod Decimal
 pub mod Records
-pub mod Wrote
+pub mod Inner

@@ -5,7 +5,7 @@ ghost use lib.ListN.{length};
 ghost use Rattle.evc_int.specs.LowBits.{signed16};
 ghost use Rattle.mv_clip_text.specs.Decimal.{digit, decimal, signedDecimal};
 ghost use Rattle.mv_clip_text.specs.Records.{field, answerAt, line, text};
-ghost use Rattle.mv_clip_text.specs.Wrote.{Wrote};
+ghost use Rattle.mv_clip_text.specs.Inner.{Wrote};
 use evc_clip::EvcClipped;
 use evc_def::EvcBlock;
 use evc_def::EvcMv;

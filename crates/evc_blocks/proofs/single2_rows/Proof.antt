@@ -3,7 +3,7 @@ use Prim.Native.Nat.{ℕ, _+_, _-_, _*_, _<_}
 use mathlib.Core.Path.{refl}
 use native.Mathlib.Omega.{arith}
 use lib.ListN.{length}
-use Rattle.evc_filter.specs.Code.{singleAt}
+use Rattle.evc_filter.specs.Inner.{singleAt}
 use Rattle.evc_blocks.proofs.Rows.{row, reads-fit, Written, none-written, room, one-more, writes-fit, all-written, next-fits, nearer}
 use Rattle.evc_blocks.proofs.single2_rows.Statement.{statement}
 use Rattle.evc_blocks.proofs.single2_rows.Tie as tie

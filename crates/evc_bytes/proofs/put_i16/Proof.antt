@@ -7,7 +7,7 @@ use lib.IntN.{ℤ}
 use mir.Facts.{toZ-ofZ}
 use Rattle.evc_int.specs.Whole.{_modulo_}
 use Rattle.evc_bytes.specs.Bytes.{bytesOf}
-use Rattle.evc_bytes.specs.Code.{written}
+use Rattle.evc_bytes.specs.Inner.{written}
 use Rattle.evc_bytes.proofs.put_i16.Statement.{statement}
 use Rattle.evc_bytes.proofs.put_i16.Tie as tie
 

@@ -6,7 +6,7 @@ use native.Mathlib.Omega.{arith}
 use Rattle.evc_map.specs.Maps.{mostUnits}
 use denote.Ref.{now}
 use Rattle.evc_camera.specs.Camera.{sumsOf}
-use Rattle.evc_camera.specs.Code.{Within}
+use Rattle.evc_camera.specs.Inner.{Within}
 use Rattle.evc_camera.proofs.Units.{counted-at, within-wider, within-more, one-more}
 use Rattle.evc_camera.proofs.add_units.Statement.{statement}
 use Rattle.evc_camera.proofs.add_units.Tie as tie

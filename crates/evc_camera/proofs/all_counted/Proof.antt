@@ -9,7 +9,7 @@ use native.Mathlib.Omega.{arith}
 use denote.Ref.{now}
 use Rattle.evc_int.proofs.Bools.{both-true}
 use Rattle.evc_camera.specs.Camera.{isCounted}
-use Rattle.evc_camera.specs.Code.{AllCounted}
+use Rattle.evc_camera.specs.Inner.{AllCounted}
 use Rattle.evc_camera.proofs.Units.{counted-at}
 use Rattle.evc_camera.proofs.all_counted.Statement.{statement}
 use Rattle.evc_camera.proofs.all_counted.Tie as tie

@@ -9,7 +9,7 @@ use lib.IntN.{ℤ}
 use Rattle.evc_map.specs.Maps.{mostUnits}
 use Rattle.evc_camera.specs.declared.Sums.{Sums}
 use Rattle.evc_camera.specs.Camera.{sumsOf}
-use Rattle.evc_camera.specs.Code.{Within}
+use Rattle.evc_camera.specs.Inner.{Within}
 use Rattle.evc_camera.proofs.Units.{within-wider, no-units}
 use Rattle.evc_camera.proofs.sum_units.Statement.{statement}
 use Rattle.evc_camera.proofs.sum_units.Tie as tie

@@ -1,5 +1,5 @@
 -- `evc_filter::first_at` meets its contract. Assumes nothing.
-use Rattle.evc_filter.specs.Code.{firstAt}
+use Rattle.evc_filter.specs.Inner.{firstAt}
 use borrow.Author.Needs.{needs}
 use Rattle.evc_filter.proofs.first_at.Statement.{statement}
 use Rattle.evc_filter.proofs.first_at.Tie as tie

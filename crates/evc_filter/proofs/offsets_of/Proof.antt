@@ -2,7 +2,7 @@
 use mathlib.Core.Path.{sym, ap}
 use borrow.Author.Needs.{needs}
 use Rattle.evc_plane.specs.declared.PlaneType.{PlaneType}
-use Rattle.evc_filter.specs.Code.{offsetsOf}
+use Rattle.evc_filter.specs.Inner.{offsetsOf}
 use Rattle.evc_filter.proofs.offsets_of.Statement.{statement}
 use Rattle.evc_filter.proofs.offsets_of.Tie as tie
 

@@ -1,5 +1,5 @@
 -- `evc_filter::second_at` meets its contract. Assumes nothing.
-use Rattle.evc_filter.specs.Code.{secondAt}
+use Rattle.evc_filter.specs.Inner.{secondAt}
 use borrow.Author.Needs.{needs}
 use Rattle.evc_filter.proofs.second_at.Statement.{statement}
 use Rattle.evc_filter.proofs.second_at.Tie as tie

@@ -1,5 +1,5 @@
 -- `evc_filter::single_at` meets its contract. Assumes nothing.
-use Rattle.evc_filter.specs.Code.{firstAt, singleAt}
+use Rattle.evc_filter.specs.Inner.{firstAt, singleAt}
 use borrow.Author.Needs.{needs}
 use Rattle.evc_filter.proofs.single_at.Statement.{statement}
 use Rattle.evc_filter.proofs.single_at.Tie as tie

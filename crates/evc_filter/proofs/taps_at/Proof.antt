@@ -7,7 +7,7 @@ use borrow.Author.Needs.{needs}
 use lib.Dec.{ltb}
 use Rattle.evc_plane.specs.declared.PlaneType.the-variants.{Y, UV}
 use Rattle.evc_filter.specs.declared.Taps.{Taps}
-use Rattle.evc_filter.specs.Code.{tapsOf}
+use Rattle.evc_filter.specs.Inner.{tapsOf}
 use Rattle.evc_filter.proofs.taps_at.Statement.{statement}
 use Rattle.evc_filter.proofs.taps_at.Tie as tie
 

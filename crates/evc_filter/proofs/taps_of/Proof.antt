@@ -9,7 +9,7 @@ use borrow.Author.Tests.{lt-ltb, le-ltb}
 use Rattle.evc_plane.specs.declared.PlaneType.{PlaneType}
 use Rattle.evc_plane.specs.declared.PlaneType.the-variants.{Y, UV}
 use Rattle.evc_filter.specs.Filter.{phases}
-use Rattle.evc_filter.specs.Code.{tapsOf}
+use Rattle.evc_filter.specs.Inner.{tapsOf}
 use Rattle.evc_filter.proofs.taps_of.Statement.{statement}
 use Rattle.evc_filter.proofs.taps_of.Tie as tie
 

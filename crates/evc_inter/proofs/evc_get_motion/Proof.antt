@@ -52,7 +52,7 @@ use Rattle.evc_def.specs.declared.EvcMv.{EvcMv}
 use Rattle.evc_motion.specs.Candidates.{getMotion, candidates}
 use Rattle.evc_motion.specs.declared.EvcCandidates.{EvcCandidates}
 use Rattle.evc_motion.specs.declared.Motion.{Motion}
-use Rattle.evc_inter.specs.Code.{zeroCandidates}
+use Rattle.evc_inter.specs.Inner.{zeroCandidates}
 use Rattle.evc_def.proofs.EvcBlock as B
 use Rattle.evc_def.proofs.EvcBlock.Laws as B′
 use Rattle.evc_def.proofs.EvcMv as Mv

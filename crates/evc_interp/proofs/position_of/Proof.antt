@@ -12,7 +12,7 @@ use Rattle.evc_def.specs.declared.QpelPlace.{QpelPlace}
 use Rattle.evc_plane.specs.Planes.{strideOf}
 use Rattle.evc_plane.specs.declared.PlaneType.{PlaneType}
 use Rattle.evc_interp.specs.Prediction.{phaseOf, isFiltered, windowOf}
-use Rattle.evc_interp.specs.Code.{positionOf}
+use Rattle.evc_interp.specs.Inner.{positionOf}
 use Rattle.evc_interp.proofs.Windows.{stride-is}
 use Rattle.evc_interp.proofs.position_of.Statement.{statement}
 use Rattle.evc_interp.proofs.position_of.Tie as tie

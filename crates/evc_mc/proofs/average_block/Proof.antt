@@ -10,7 +10,7 @@ use Rattle.evc_int.specs.Lists.{withRow, withBlock}
 use Rattle.evc_int.proofs.Lists.{withRow-ext, withRow-out, withBlock-ext, withBlock-run, run-each}
 use Rattle.evc_def.specs.declared.EvcBlock.{EvcBlock}
 use Rattle.evc_mc.specs.Block.{Component, luma, cb, cr, offsetOf, widthOf, heightOf, withComponent, withSamples, average}
-use Rattle.evc_mc.specs.Steps.{blockSample, RowSmall, BlockSmall}
+use Rattle.evc_mc.specs.Inner.{blockSample, RowSmall, BlockSmall}
 use Rattle.evc_mc.proofs.Checks.{Sides, sides}
 use Rattle.evc_mc.proofs.Samples.{sizeOf, component-room}
 use Rattle.evc_mc.proofs.average_block.Statement.{statement}

@@ -40,7 +40,7 @@ use denote.Triple.Walked.{needs, Stays, stay-none, stay-dropped, onExit, walkOf,
 use denote.Exit.{yes, no}
 use denote.Signature.{plain, mutSliceOf}
 use borrow.Table.Elements.{at, at-mul}
-use Rattle.evc_mc.specs.Ends.{withTail, endsAs, bothEnd, onceEnded}
+use Rattle.evc_mc.specs.Inner.{withTail, endsAs, bothEnd, onceEnded}
 use Rattle.evc_mc.proofs.Ends.{gives-up, once-ended}
 use Rattle.evc_mc.proofs.Tail.{Tie, part, tail-out, tail-ends}
 use Rattle.evc_mc.proofs.Walk.{slice, reads, sets, chooses, lets-go, tells}

@@ -49,10 +49,10 @@ use Rattle.evc_plane.specs.declared.PlaneType.{PlaneType}
 use Rattle.evc_plane.proofs.PlaneType as K
 use Rattle.evc_plane.proofs.PlaneType.Laws as K′
 use Rattle.evc_interp.specs.declared.Position.{Position}
-use Rattle.evc_interp.specs.Code.{Readable, sampleFrom}
+use Rattle.evc_interp.specs.Inner.{Readable, sampleFrom}
 use Rattle.evc_interp.proofs.Position as P
 use Rattle.evc_interp.proofs.Position.Laws as P′
-use Rattle.evc_mc.specs.Ends.{withTail, endsAs, bothEnd, onceEnded}
+use Rattle.evc_mc.specs.Inner.{withTail, endsAs, bothEnd, onceEnded}
 use Rattle.evc_mc.proofs.Ends.{ended}
 use Rattle.evc_mc.proofs.Walk.{slice, reads, sets, lets-go, needs-both}
 use Rattle.evc_mc.proofs.pick as picker

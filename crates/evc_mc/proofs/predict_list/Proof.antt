@@ -14,11 +14,11 @@ use Rattle.evc_def.specs.Codes.{firstOf, blockChecks}
 use Rattle.evc_plane.specs.declared.PlaneType.the-variants.{Y, UV}
 use Rattle.evc_clip.specs.Clip.{clippedPlace}
 use Rattle.evc_interp.specs.Prediction.{predicted}
-use Rattle.evc_interp.specs.Code.{positionOf, Readable, sampleFrom}
+use Rattle.evc_interp.specs.Inner.{positionOf, Readable, sampleFrom}
 use Rattle.evc_interp.specs.declared.Position.{Position}
 use Rattle.evc_interp.proofs.Windows.{accepts, readable, predicts}
 use Rattle.evc_mc.specs.Block.{RefPicList, refPicList, Component, luma, cb, cr, typeOf, planeOf, offsetOf, widthOf, heightOf, withComponent, withSamples, listSample, predLen}
-use Rattle.evc_mc.specs.Steps.{Examined, withList}
+use Rattle.evc_mc.specs.Inner.{Examined, withList}
 use Rattle.evc_mc.proofs.Checks.{sides, plane-accepted}
 use Rattle.evc_mc.proofs.Samples.{component-room, component-end}
 use Rattle.evc_mc.proofs.predict_list.Statement.{statement}

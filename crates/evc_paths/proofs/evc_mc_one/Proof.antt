@@ -9,8 +9,8 @@ use lib.ListN.{length}
 use Rattle.evc_int.specs.Lists.{withBlock}
 use Rattle.evc_int.proofs.Lists.{columns-none, columns-done, row-fits}
 use Rattle.evc_filter.specs.Filter.{interpolated}
-use Rattle.evc_filter.specs.Code.{singleAt, offsetsOf}
-use Rattle.evc_blocks.specs.Code.{Rows}
+use Rattle.evc_filter.specs.Inner.{singleAt, offsetsOf}
+use Rattle.evc_blocks.specs.Inner.{Rows}
 use Rattle.evc_blocks.proofs.Rows.{as-wide}
 use Rattle.evc_paths.proofs.Paths.{stepOf, single-asks, single-gives, group-step, full}
 use Rattle.evc_paths.proofs.evc_mc_one.Statement.{statement}

@@ -9,7 +9,7 @@ use mir.Val.{SFits}
 use mir.Facts.{toZ-ofZ}
 use Rattle.evc_int.specs.Whole.{_modulo_}
 use Rattle.evc_bytes.specs.Bytes.{bytesOf}
-use Rattle.evc_bytes.specs.Code.{written}
+use Rattle.evc_bytes.specs.Inner.{written}
 use Rattle.evc_bytes.proofs.Written.{joined}
 use Rattle.evc_trace.proofs.put_mv.Statement.{statement}
 use Rattle.evc_trace.proofs.put_mv.Tie as tie

@@ -9,7 +9,7 @@ use native.Mathlib.Omega.{arith}
 use lib.ListN.{length}
 use Rattle.evc_clip.specs.declared.EvcClipped.{EvcClipped}
 use Rattle.mv_clip_text.specs.Records.{answerAt, line, lines, incomplete, text}
-use Rattle.mv_clip_text.specs.Wrote.{Wrote}
+use Rattle.mv_clip_text.specs.Inner.{Wrote}
 use Rattle.mv_clip_text.proofs.Wrote.{wrote-nothing, wrote-both}
 use Rattle.mv_clip_text.proofs.chunk_text.Statement.{statement}
 use Rattle.mv_clip_text.proofs.chunk_text.Tie as tie

@@ -5,7 +5,7 @@ use mathlib.Core.List.{List, [], _∷_}
 use Prim.Native.Nat.{ℕ, _+_, _/_, _%_, _≤_, _<_}
 use native.Mathlib.Omega.{arith}
 use Rattle.mv_clip_text.specs.Decimal.{digit}
-use Rattle.mv_clip_text.specs.Wrote.{Wrote}
+use Rattle.mv_clip_text.specs.Inner.{Wrote}
 use Rattle.mv_clip_text.proofs.Wrote.{wrote-nothing}
 use Rattle.mv_clip_text.proofs.put_digit.Statement.{statement}
 use Rattle.mv_clip_text.proofs.put_digit.Tie as tie

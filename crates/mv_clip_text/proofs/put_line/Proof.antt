@@ -9,7 +9,7 @@ use mir.Val.{SFits, toZ, ofZ}
 use mir.Facts.{toZ-ofZ}
 use Rattle.mv_clip_text.specs.Decimal.{signedDecimal}
 use Rattle.mv_clip_text.specs.Records.{line}
-use Rattle.mv_clip_text.specs.Wrote.{Wrote}
+use Rattle.mv_clip_text.specs.Inner.{Wrote}
 use Rattle.mv_clip_text.proofs.Wrote.{wrote-both}
 use Rattle.mv_clip_text.proofs.put_line.Statement.{statement}
 use Rattle.mv_clip_text.proofs.put_line.Tie as tie

@@ -9,7 +9,7 @@ use Rattle.evc_int.specs.Whole.{_⁺, _⁻}
 use Rattle.evc_int.proofs.Whole.{Is, nat, of, is--, parts, abs-of, lt-yes, lt-no}
 use Rattle.evc_int.proofs.Machine.{signed, signed-needs, arg, is-rd, fit, to-unsigned}
 use Rattle.mv_clip_text.specs.Decimal.{decimal, signedDecimal}
-use Rattle.mv_clip_text.specs.Wrote.{Wrote}
+use Rattle.mv_clip_text.specs.Inner.{Wrote}
 use Rattle.mv_clip_text.proofs.Wrote.{wrote-both}
 use Rattle.mv_clip_text.proofs.put_signed.Statement.{statement}
 use Rattle.mv_clip_text.proofs.put_signed.Tie as tie

@@ -2,7 +2,7 @@
 use mathlib.Core.List.{List}
 use Prim.Native.Nat.{ℕ, _+_, _*_, _<_, _≤_}
 use lib.ListN.{length}
-use Rattle.evc_filter.specs.Code.{Ordered, Small, Bounded}
+use Rattle.evc_filter.specs.Inner.{Ordered, Small, Bounded}
 use Rattle.evc_filter.specs.declared.Offsets.{Offsets}
 use Rattle.evc_filter.specs.declared.Taps.{Taps}
 

@@ -9,7 +9,7 @@ use Rattle.evc_def.specs.declared.QpelPlace.{QpelPlace}
 use Rattle.evc_plane.specs.Planes.{sideOf, strideOf}
 use Rattle.evc_plane.specs.declared.PlaneType.{PlaneType}
 use Rattle.evc_filter.specs.Filter.{phases, reach}
-use Rattle.evc_lanes.specs.Code.{isRowWidth}
+use Rattle.evc_lanes.specs.Inner.{isRowWidth}
 use Rattle.evc_paths.specs.Inner.{Within}
 use Rattle.evc_interp.specs.Prediction.{phaseOf, isFiltered, windowOf, sampleBy}
 use Rattle.evc_interp.specs.declared.Position.{Position}
