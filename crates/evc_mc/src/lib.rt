@@ -2,21 +2,19 @@ ghost use mathlib.Core.Path.{_≡_};
 ghost use mathlib.Core.Bool.{false, cond, _&&_};
 ghost use lib.Dec.{eqb};
 ghost use Prim.Native.Nat.{ℕ, _+_, _*_, _≤_};
-ghost use lib.ListN.{length, getD, drop};
-ghost use Rattle.evc_int.specs.Lists.{withRow, withBlock};
+ghost use lib.ListN.{length, getD};
+ghost use Rattle.evc_int.specs.Lists.{withRow};
 ghost use Rattle.evc_def.specs.Blocks.{badPicture};
 ghost use Rattle.evc_def.specs.Codes.{firstOf, blockChecks};
 ghost use Rattle.evc_def.specs.Places.{isSame};
 ghost use Rattle.evc_clip.specs.Clip.{clippedPlace};
-ghost use Rattle.evc_interp.specs.Inner.{Readable, sampleFrom};
 ghost use Rattle.evc_mc.specs.Block.{refPicList, Component, withSamples, listSample, firstSample, isBi, average, predLen};
 ghost use Rattle.evc_mc.specs.Block.{planesShort, listShort, pocExceeds, listExceeds, mc2Code, mc2First, mc2Second};
-ghost use Rattle.evc_mc.specs.Inner.{bothEnd, onceEnded, ListExamined, withList, blockSample, RowSmall, BlockSmall};
+ghost use Rattle.evc_mc.specs.Inner.{ListExamined, withList, blockSample, RowSmall, BlockSmall};
 use evc_def::EvcBlock;
 use evc_def::EvcMv;
 use evc_def::MAX_POC;
 use evc_def::QpelPlace;
-use evc_interp::Position;
 use evc_plane::PlaneType;
 
 // A list of a block: whether it is in use, its vector, and its picture's order count.
@@ -112,62 +110,6 @@ fn mc2_code(
 
 // ---- the prediction of one list
 
-// One picker handing back the part of either lent block, from the plane's offset on. Once the part has ended, both blocks have.
-// `search` finds the lifetime, which has no name in a clause.
-fn pick<'a>(
-    pred0: &'a mut [u16],
-    pred1: &'a mut [u16],
-    second: bool,
-    offset: usize,
-) -> &'a mut [u16]
-    requires { ⌜ offset ≤ length (now (cond second pred1 pred0)) ⌝ }
-    ensures { λ r. ⌜ now r ≡ drop offset (now (cond second (pred1 .entry) (pred0 .entry))) ⌝ }
-    ensures { λ r. onceEnded 𝓤 H A (search) r (bothEnd 𝓤 H A (pred0 .entry) (pred1 .entry) second offset) }
-{
-    let pred = if second { pred1 } else { pred0 };
-    &mut pred[offset..]
-}
-
-fn predict_at(t: PlaneType, p: Position, w: usize, h: usize, plane: &[u16], pred: &mut [u16])
-    requires { ⌜ Readable t p w h (now plane) × (h * w ≤ length (now pred)) ⌝ }
-    ensures { λ _. ⌜ now (pred .exit) ≡ withBlock (now (pred .entry)) 0 w w h (sampleFrom t p (now (plane .entry))) ⌝ }
-{
-    evc_interp::predict(
-        t,
-        p.stride,
-        p.at,
-        p.across,
-        p.down,
-        p.dx,
-        p.dy,
-        w,
-        h,
-        plane,
-        pred,
-    );
-}
-
-// One plane of a list to the picked block, at the plane's offset.
-fn predict_component<'p, 'a>(
-    t: PlaneType,
-    p: Position,
-    w: usize,
-    h: usize,
-    plane: &'p [u16],
-    pred0: &'a mut [u16],
-    pred1: &'a mut [u16],
-    second: bool,
-    offset: usize,
-)
-    requires { ⌜ Readable t p w h (now plane) ⌝ }
-    requires { ⌜ (offset + h * w ≤ length (now pred0)) × (offset + h * w ≤ length (now pred1)) ⌝ }
-    ensures { λ _. ⌜ now (pred0 .exit) ≡ cond second (now (pred0 .entry)) (withBlock (now (pred0 .entry)) offset w w h (sampleFrom t p (now (plane .entry)))) ⌝ }
-    ensures { λ _. ⌜ now (pred1 .exit) ≡ cond second (withBlock (now (pred1 .entry)) offset w w h (sampleFrom t p (now (plane .entry)))) (now (pred1 .entry)) ⌝ }
-{
-    let pred = pick(pred0, pred1, second, offset);
-    predict_at(t, p, w, h, plane, pred);
-}
-
 // The three planes of a list, if it is in use, to the block that is picked.
 fn predict_list(
     b: EvcBlock,
@@ -195,8 +137,8 @@ fn predict_list(
     let chroma = evc_interp::position_of(PlaneType::UV, b.pic_w, b.pic_h, list.mv, gmv);
     let offset_u = evc_def::cu_dim_offset(1);
     let offset_v = evc_def::cu_dim_offset(2);
-    predict_component(PlaneType::Y, luma, w, h, &*y, pred0, pred1, second, 0);
-    predict_component(
+    evc_pick::predict_component(PlaneType::Y, luma, w, h, &*y, pred0, pred1, second, 0);
+    evc_pick::predict_component(
         PlaneType::UV,
         chroma,
         w / 2,
@@ -207,7 +149,7 @@ fn predict_list(
         second,
         offset_u,
     );
-    predict_component(
+    evc_pick::predict_component(
         PlaneType::UV,
         chroma,
         w / 2,

@@ -1,4 +1,4 @@
--- `evc_mc::pick` meets its contract: a walk of its MIR, by hand. The block that is picked is cut at the offset, with a tie to the part (`Tail`), and the other one is given up as it was lent.
+-- `evc_pick::pick` meets its contract: a walk of its MIR, by hand. The block that is picked is cut at the offset, with a tie to the part (`Tail`), and the other one is given up as it was lent.
 -- Assumes nothing.
 use mathlib.Core.Path.{_≡_, refl, _∙_, ap}
 use mathlib.Core.Bool.{Bool, true, false, not, cond}
@@ -40,14 +40,14 @@ use denote.Triple.Walked.{needs, Stays, stay-none, stay-dropped, onExit, walkOf,
 use denote.Exit.{yes, no}
 use denote.Signature.{plain, mutSliceOf}
 use borrow.Table.Elements.{at, at-mul}
-use Rattle.evc_mc.specs.Inner.{withTail, endsAs, bothEnd, onceEnded}
-use Rattle.evc_mc.proofs.Ends.{gives-up, once-ended}
-use Rattle.evc_mc.proofs.Tail.{Tie, part, tail-out, tail-ends}
-use Rattle.evc_mc.proofs.Walk.{slice, reads, sets, chooses, lets-go, tells}
-use Rattle.evc_mc.proofs.pick.Key.{name as #evc-mc·pick}
-use Rattle.evc_mc.proofs.pick as picker
-use Rattle.evc_mc.proofs.pick.Statement as stated
-use Rattle.evc_mc.proofs.pick.Code as code
+use Rattle.evc_pick.specs.Inner.{withTail, endsAs, bothEnd, onceEnded}
+use Rattle.evc_pick.proofs.Ends.{gives-up, once-ended}
+use Rattle.evc_pick.proofs.Tail.{Tie, part, tail-out, tail-ends}
+use Rattle.evc_pick.proofs.Walk.{slice, reads, sets, chooses, lets-go, tells}
+use Rattle.evc_pick.proofs.pick.Key.{name as #evc-pick·pick}
+use Rattle.evc_pick.proofs.pick as picker
+use Rattle.evc_pick.proofs.pick.Statement as stated
+use Rattle.evc_pick.proofs.pick.Code as code
 
 abbrev stayed : Stays (picker.ended .signature .params) (picker.ended .kept)
 stayed = (stay-dropped (mutSliceOf (0 ∷ []) tt (plain (λ _. u16))) no, (stay-dropped (mutSliceOf (0 ∷ []) tt (plain (λ _. u16))) no, (stay-none (λ _. bool) yes, (stay-none (λ _. usize) yes, tt))))
@@ -186,5 +186,5 @@ pub pick-spec : {M : Type 1} → stated.statement M
 unfolding code.routine tablesOf
 pick-spec 𝓤 H 𝓜 𝓖 𝓡 =
     entered 𝓤 H (tripleOf 𝓤 H (𝓖 .A) picker.signature (picker.spec 𝓤 H (𝓖 .A) (𝓜 .mem) (𝓡 .run)))
-    (tables 𝓤 H 𝓜 𝓡 code.env .C) (tables 𝓤 H 𝓜 𝓡 code.env .Λ) #evc-mc·pick code.function (code.unfolded 𝓤 H 𝓜 𝓡)
+    (tables 𝓤 H 𝓜 𝓡 code.env .C) (tables 𝓤 H 𝓜 𝓡 code.env .Λ) #evc-pick·pick code.function (code.unfolded 𝓤 H 𝓜 𝓡)
     (pick-meets 𝓤 H (𝓖 .A) (givenOf 𝓤 H 𝓜 𝓖) (𝓜 .mem) (𝓡 .run) (tablesOf 𝓤 H 𝓜 (tables 𝓤 H 𝓜 𝓡 code.env)))

@@ -1,4 +1,4 @@
--- `evc_mc::predict_component` meets its contract: a walk of its MIR, by hand. All that it knows of `pick` and `predict_at` is that each meets its contract.
+-- `evc_pick::predict_component` meets its contract: a walk of its MIR, by hand. All that it knows of `pick` and `predict_at` is that each meets its contract.
 -- Both blocks go to `pick` at their own lifetime, share and names, and the part that comes back goes to `predict_at` so. Once that has ended the part, `pick`'s tie ends both blocks. The plane is Copy: what it owns is had twice, for the call and for the exit.
 -- Assumes nothing.
 use mathlib.Core.Path.{_≡_, refl, sym, _∙_, ap, subst}
@@ -52,21 +52,21 @@ use Rattle.evc_interp.specs.declared.Position.{Position}
 use Rattle.evc_interp.specs.Inner.{Readable, sampleFrom}
 use Rattle.evc_interp.proofs.Position as P
 use Rattle.evc_interp.proofs.Position.Laws as P′
-use Rattle.evc_mc.specs.Inner.{withTail, endsAs, bothEnd, onceEnded}
-use Rattle.evc_mc.proofs.Ends.{ended}
-use Rattle.evc_mc.proofs.Walk.{slice, reads, sets, lets-go, needs-both}
-use Rattle.evc_mc.proofs.pick as picker
-use Rattle.evc_mc.proofs.pick.Symbol as pick-def
-use Rattle.evc_mc.proofs.pick.Symbol.{name as #evc-mc·pick}
-use Rattle.evc_mc.proofs.pick.Met as pick-thm
-use Rattle.evc_mc.proofs.predict_at as predict-at
-use Rattle.evc_mc.proofs.predict_at.Symbol as predict-at-def
-use Rattle.evc_mc.proofs.predict_at.Symbol.{name as #evc-mc·predict-at}
-use Rattle.evc_mc.proofs.predict_at.Met as predict-at-thm
-use Rattle.evc_mc.proofs.predict_component.Key.{name as #evc-mc·predict-component}
-use Rattle.evc_mc.proofs.predict_component as component
-use Rattle.evc_mc.proofs.predict_component.Statement as stated
-use Rattle.evc_mc.proofs.predict_component.Code as code
+use Rattle.evc_pick.specs.Inner.{withTail, endsAs, bothEnd, onceEnded}
+use Rattle.evc_pick.proofs.Ends.{ended}
+use Rattle.evc_pick.proofs.Walk.{slice, reads, sets, lets-go, needs-both}
+use Rattle.evc_pick.proofs.pick as picker
+use Rattle.evc_pick.proofs.pick.Symbol as pick-def
+use Rattle.evc_pick.proofs.pick.Symbol.{name as #evc-pick·pick}
+use Rattle.evc_pick.proofs.pick.Met as pick-thm
+use Rattle.evc_pick.proofs.predict_at as predict-at
+use Rattle.evc_pick.proofs.predict_at.Symbol as predict-at-def
+use Rattle.evc_pick.proofs.predict_at.Symbol.{name as #evc-pick·predict-at}
+use Rattle.evc_pick.proofs.predict_at.Met as predict-at-thm
+use Rattle.evc_pick.proofs.predict_component.Key.{name as #evc-pick·predict-component}
+use Rattle.evc_pick.proofs.predict_component as component
+use Rattle.evc_pick.proofs.predict_component.Statement as stated
+use Rattle.evc_pick.proofs.predict_component.Code as code
 
 abbrev stayed : Stays (component.ended .signature .params) (component.ended .kept)
 stayed = (stay-none (λ _. K.the-row) yes, (stay-none (λ _. P.the-row) yes, (stay-none (λ _. usize) yes, (stay-none (λ _. usize) yes, (stay-none-slice (0 ∷ []) tt (plain (λ _. u16)) yes, (gave-slice (1 ∷ []) tt (plain (λ _. u16)), (gave-slice (1 ∷ []) tt (plain (λ _. u16)), (stay-none (λ _. bool) yes, (stay-none (λ _. usize) yes, tt)))))))))
@@ -230,7 +230,7 @@ module _ {M : Type 1} (𝓤 : URA M) (H : Heap 𝓤) (A : Atoms 𝓤) (W : Given
   lasts-of r zs shown e = lasts-are x y k w h le₀ le₁ sample s zs (e ∙ ap (λ (l : List ℕ). withBlock l 0 w w h sample) shown)
 
   -- ---- the walk: locals 1 to 9 are the parameters, 10 the part; 11 and 12 are pred0 lent on, 13 and 14 pred1, 16 and 17 the part
-  module _ (C : Calls 𝓤 H) (Λ : Loops 𝓤 H) (fm : FmC 𝓤 H (W .laws) C) (known-pick : Triple 𝓤 (C #evc-mc·pick) (Pick 𝓤 H A mem run)) (known-at : Triple 𝓤 (C #evc-mc·predict-at) (PredictAt 𝓤 H A mem run)) where
+  module _ (C : Calls 𝓤 H) (Λ : Loops 𝓤 H) (fm : FmC 𝓤 H (W .laws) C) (known-pick : Triple 𝓤 (C #evc-pick·pick) (Pick 𝓤 H A mem run)) (known-at : Triple 𝓤 (C #evc-pick·predict-at) (PredictAt 𝓤 H A mem run)) where
     walk : Is (ShrSlice (named 0) κ₀ u16) plane (slice plane ∷ []) → Room u16 (length (x .now)) → Room u16 (length (y .now))
         → ent 𝓤 (onEntry 𝓤 H A component.signature κs qs a vals) (WpFn 𝓤 H C Λ code.function (vt ∷ vp ∷ vint w64 w ∷ vint w64 h ∷ slice plane ∷ slice x ∷ slice y ∷ vbool s ∷ vint w64 k ∷ []) Post)
     walk gplane room₀ room₁ =
@@ -272,7 +272,7 @@ module _ {M : Type 1} (𝓤 : URA M) (H : Heap 𝓤) (A : Atoms 𝓤) (W : Given
         keep ! (0 ∷ 2 ∷ 4 ∷ []) $ by ! (exits _ _ (lasts-of r (ws .1 .1 .1 .1 .1 .0) shown e .0) (lasts-of r (ws .1 .1 .1 .1 .1 .0) shown e .1)))))))))))))))))))))))))))))))
 
 module _ {M : Type 1} (𝓤 : URA M) (H : Heap 𝓤) (A : Atoms 𝓤) (W : Given 𝓤 H A) (mem : Memory → SProp 𝓤) (run : Routine → Fun 𝓤) where
-  component-walks : (C : Calls 𝓤 H) (Λ : Loops 𝓤 H) → FmC 𝓤 H (W .laws) C → Triple 𝓤 (C #evc-mc·pick) (Pick 𝓤 H A mem run) → Triple 𝓤 (C #evc-mc·predict-at) (PredictAt 𝓤 H A mem run) → Walks 𝓤 H A component.ended stayed (WpFn 𝓤 H C Λ code.function) (component.clauses 𝓤 H A mem run)
+  component-walks : (C : Calls 𝓤 H) (Λ : Loops 𝓤 H) → FmC 𝓤 H (W .laws) C → Triple 𝓤 (C #evc-pick·pick) (Pick 𝓤 H A mem run) → Triple 𝓤 (C #evc-pick·predict-at) (PredictAt 𝓤 H A mem run) → Walks 𝓤 H A component.ended stayed (WpFn 𝓤 H C Λ code.function) (component.clauses 𝓤 H A mem run)
   component-walks C Λ fm known-pick known-at = walked 𝓤 H A component.ended stayed (component.clauses 𝓤 H A mem run) (WpFn 𝓤 H C Λ code.function)
       (λ κs. (EL.vals K.the-type K′.the-laws, (SL.vals P.the-type P′.the-laws, (uint-vals w64, (uint-vals w64, (slice-vals, (slice-vals, (slice-vals, (bool-vals, (uint-vals w64, tt))))))))))
       (λ κs. (EL.tells K.the-type K′.the-laws, (SL.tells P.the-type P′.the-laws, (uint-tells w64, (uint-tells w64, (shr-slice-tells (named 0) (κs .0) u16, (mut-slice-tells (named 1) (κs .1 .0) u16, (mut-slice-tells (named 1) (κs .1 .0) u16, (bool-tells, (uint-tells w64, tt))))))))))
@@ -303,7 +303,7 @@ module _ {M : Type 1} (𝓤 : URA M) (H : Heap 𝓤) (A : Atoms 𝓤) (W : Given
     ),
   )
 
-component-meets : {M : Type 1} (𝓤 : URA M) (H : Heap 𝓤) (A : Atoms 𝓤) → Given 𝓤 H A → (mem : Memory → SProp 𝓤) (run : Routine → Fun 𝓤) (𝓣 : Tables 𝓤 H) → Triple 𝓤 (𝓣 .C #evc-mc·pick) (Pick 𝓤 H A mem run) → Triple 𝓤 (𝓣 .C #evc-mc·predict-at) (PredictAt 𝓤 H A mem run)
+component-meets : {M : Type 1} (𝓤 : URA M) (H : Heap 𝓤) (A : Atoms 𝓤) → Given 𝓤 H A → (mem : Memory → SProp 𝓤) (run : Routine → Fun 𝓤) (𝓣 : Tables 𝓤 H) → Triple 𝓤 (𝓣 .C #evc-pick·pick) (Pick 𝓤 H A mem run) → Triple 𝓤 (𝓣 .C #evc-pick·predict-at) (PredictAt 𝓤 H A mem run)
     → Meets 𝓤 H A component.signature (WpFn 𝓤 H (𝓣 .C) (𝓣 .Λ) code.function) (component.spec 𝓤 H A mem run)
 component-meets 𝓤 H A W mem run 𝓣 known-pick known-at =
     walk-meets 𝓤 H A component.ended stayed W (goes 𝓤 H A W mem run) (component.clauses 𝓤 H A mem run) (WpFn 𝓤 H (𝓣 .C) (𝓣 .Λ) code.function) (WpFn-mono 𝓤 H (W .laws) 𝓣 code.function)
@@ -313,7 +313,7 @@ pub predict-component-spec : {M : Type 1} → stated.statement M
 unfolding code.routine tablesOf
 predict-component-spec 𝓤 H 𝓜 𝓖 𝓡 =
     entered 𝓤 H (tripleOf 𝓤 H (𝓖 .A) component.signature (component.spec 𝓤 H (𝓖 .A) (𝓜 .mem) (𝓡 .run)))
-    (tables 𝓤 H 𝓜 𝓡 code.env .C) (tables 𝓤 H 𝓜 𝓡 code.env .Λ) #evc-mc·predict-component code.function (code.unfolded 𝓤 H 𝓜 𝓡)
+    (tables 𝓤 H 𝓜 𝓡 code.env .C) (tables 𝓤 H 𝓜 𝓡 code.env .Λ) #evc-pick·predict-component code.function (code.unfolded 𝓤 H 𝓜 𝓡)
     (component-meets 𝓤 H (𝓖 .A) (givenOf 𝓤 H 𝓜 𝓖) (𝓜 .mem) (𝓡 .run) (tablesOf 𝓤 H 𝓜 (tables 𝓤 H 𝓜 𝓡 code.env))
-    (cited 𝓤 H (Pick 𝓤 H (𝓖 .A) (𝓜 .mem) (𝓡 .run)) 𝓜 𝓡 code.env #evc-mc·pick pick-def.routine code.calls-evc-mc·pick (pick-thm.met 𝓤 H 𝓜 𝓖 𝓡))
-    (cited 𝓤 H (PredictAt 𝓤 H (𝓖 .A) (𝓜 .mem) (𝓡 .run)) 𝓜 𝓡 code.env #evc-mc·predict-at predict-at-def.routine code.calls-evc-mc·predict-at (predict-at-thm.met 𝓤 H 𝓜 𝓖 𝓡)))
+    (cited 𝓤 H (Pick 𝓤 H (𝓖 .A) (𝓜 .mem) (𝓡 .run)) 𝓜 𝓡 code.env #evc-pick·pick pick-def.routine code.calls-evc-pick·pick (pick-thm.met 𝓤 H 𝓜 𝓖 𝓡))
+    (cited 𝓤 H (PredictAt 𝓤 H (𝓖 .A) (𝓜 .mem) (𝓡 .run)) 𝓜 𝓡 code.env #evc-pick·predict-at predict-at-def.routine code.calls-evc-pick·predict-at (predict-at-thm.met 𝓤 H 𝓜 𝓖 𝓡)))
