@@ -7,9 +7,9 @@ use native.Mathlib.Omega.{arith}
 use native.Mathlib.Numerals.{add-one}
 use lib.ListN.{getD}
 use Rattle.evc_samples.specs.Samples.{tooLarge, rowExceeds}
-use Rattle.evc_samples.specs.Inner.{quadExceeds, octExceeds}
-use Rattle.evc_samples.specs.declared.Quad.{Quad}
-use Rattle.evc_samples.specs.declared.Oct.{Oct}
+use Rattle.evc_samples.specs.Inner.{exceeds4, exceeds8}
+use Rattle.evc_samples.specs.declared.Lanes4.{Lanes4}
+use Rattle.evc_samples.specs.declared.Lanes8.{Lanes8}
 
 -- one lane more: what the lanes held, and what they take from the first place and from the second
 one-more : (p a b c r x y z : Bool) → p ≡ a || (b || c) → r ≡ x || (y || z) → p || r ≡ (a || x) || ((b || y) || (c || z))
@@ -42,22 +42,22 @@ module _ (s : List ℕ) (i j : ℕ) where
       rw add-one
       (one-more p q (rowExceeds s i n) (rowExceeds s j n) (tooLarge r) (tooLarge o) (tooLarge (getD s (i + n) 0)) (tooLarge (getD s (j + n) 0)) h t)
 
-  module _ (o r : Quad) where
-    pub quad-turn : tooLarge (r .o0) ≡ tooLarge (o .o0) || (tooLarge (getD s i 0) || tooLarge (getD s j 0)) → Turn 1 (o .o1) (r .o1) → Turn 2 (o .o2) (r .o2) → Turn 3 (o .o3) (r .o3) → quadExceeds r ≡ quadExceeds o || (rowExceeds s i 4 || rowExceeds s j 4)
-    unfolding quadExceeds
-    quad-turn h₀ h₁ h₂ h₃ = next 3 ((tooLarge (r .o0) || tooLarge (r .o1)) || tooLarge (r .o2)) ((tooLarge (o .o0) || tooLarge (o .o1)) || tooLarge (o .o2)) (o .o3) (r .o3) (next 2 (tooLarge (r .o0) || tooLarge (r .o1)) (tooLarge (o .o0) || tooLarge (o .o1)) (o .o2) (r .o2) (next 1 (tooLarge (r .o0)) (tooLarge (o .o0)) (o .o1) (r .o1) (first (o .o0) (r .o0) h₀) h₁) h₂) h₃
+  module _ (o r : Lanes4) where
+    pub turn4 : tooLarge (r .o0) ≡ tooLarge (o .o0) || (tooLarge (getD s i 0) || tooLarge (getD s j 0)) → Turn 1 (o .o1) (r .o1) → Turn 2 (o .o2) (r .o2) → Turn 3 (o .o3) (r .o3) → exceeds4 r ≡ exceeds4 o || (rowExceeds s i 4 || rowExceeds s j 4)
+    unfolding exceeds4
+    turn4 h₀ h₁ h₂ h₃ = next 3 ((tooLarge (r .o0) || tooLarge (r .o1)) || tooLarge (r .o2)) ((tooLarge (o .o0) || tooLarge (o .o1)) || tooLarge (o .o2)) (o .o3) (r .o3) (next 2 (tooLarge (r .o0) || tooLarge (r .o1)) (tooLarge (o .o0) || tooLarge (o .o1)) (o .o2) (r .o2) (next 1 (tooLarge (r .o0)) (tooLarge (o .o0)) (o .o1) (r .o1) (first (o .o0) (r .o0) h₀) h₁) h₂) h₃
 
-  module _ (o r : Oct) where
-    pub oct-turn : tooLarge (r .o0) ≡ tooLarge (o .o0) || (tooLarge (getD s i 0) || tooLarge (getD s j 0)) → Turn 1 (o .o1) (r .o1) → Turn 2 (o .o2) (r .o2) → Turn 3 (o .o3) (r .o3) → Turn 4 (o .o4) (r .o4) → Turn 5 (o .o5) (r .o5) → Turn 6 (o .o6) (r .o6) → Turn 7 (o .o7) (r .o7) → octExceeds r ≡ octExceeds o || (rowExceeds s i 8 || rowExceeds s j 8)
-    unfolding octExceeds
-    oct-turn h₀ h₁ h₂ h₃ h₄ h₅ h₆ h₇ =
+  module _ (o r : Lanes8) where
+    pub turn8 : tooLarge (r .o0) ≡ tooLarge (o .o0) || (tooLarge (getD s i 0) || tooLarge (getD s j 0)) → Turn 1 (o .o1) (r .o1) → Turn 2 (o .o2) (r .o2) → Turn 3 (o .o3) (r .o3) → Turn 4 (o .o4) (r .o4) → Turn 5 (o .o5) (r .o5) → Turn 6 (o .o6) (r .o6) → Turn 7 (o .o7) (r .o7) → exceeds8 r ≡ exceeds8 o || (rowExceeds s i 8 || rowExceeds s j 8)
+    unfolding exceeds8
+    turn8 h₀ h₁ h₂ h₃ h₄ h₅ h₆ h₇ =
         next 7 ((((((tooLarge (r .o0) || tooLarge (r .o1)) || tooLarge (r .o2)) || tooLarge (r .o3)) || tooLarge (r .o4)) || tooLarge (r .o5)) || tooLarge (r .o6)) ((((((tooLarge (o .o0) || tooLarge (o .o1)) || tooLarge (o .o2)) || tooLarge (o .o3)) || tooLarge (o .o4)) || tooLarge (o .o5)) || tooLarge (o .o6)) (o .o7) (r .o7) (next 6 (((((tooLarge (r .o0) || tooLarge (r .o1)) || tooLarge (r .o2)) || tooLarge (r .o3)) || tooLarge (r .o4)) || tooLarge (r .o5)) (((((tooLarge (o .o0) || tooLarge (o .o1)) || tooLarge (o .o2)) || tooLarge (o .o3)) || tooLarge (o .o4)) || tooLarge (o .o5)) (o .o6) (r .o6) (next 5 ((((tooLarge (r .o0) || tooLarge (r .o1)) || tooLarge (r .o2)) || tooLarge (r .o3)) || tooLarge (r .o4)) ((((tooLarge (o .o0) || tooLarge (o .o1)) || tooLarge (o .o2)) || tooLarge (o .o3)) || tooLarge (o .o4)) (o .o5) (r .o5) (next 4 (((tooLarge (r .o0) || tooLarge (r .o1)) || tooLarge (r .o2)) || tooLarge (r .o3)) (((tooLarge (o .o0) || tooLarge (o .o1)) || tooLarge (o .o2)) || tooLarge (o .o3)) (o .o4) (r .o4) (next 3 ((tooLarge (r .o0) || tooLarge (r .o1)) || tooLarge (r .o2)) ((tooLarge (o .o0) || tooLarge (o .o1)) || tooLarge (o .o2)) (o .o3) (r .o3) (next 2 (tooLarge (r .o0) || tooLarge (r .o1)) (tooLarge (o .o0) || tooLarge (o .o1)) (o .o2) (r .o2) (next 1 (tooLarge (r .o0)) (tooLarge (o .o0)) (o .o1) (r .o1) (first (o .o0) (r .o0) h₀) h₁) h₂) h₃) h₄) h₅) h₆) h₇
 
 -- the lanes before the first row
-pub no-quad : quadExceeds (record { o0 = 0; o1 = 0; o2 = 0; o3 = 0 }) ≡ tooLarge 0
-unfolding quadExceeds tooLarge
-no-quad = refl
+pub none4 : exceeds4 (record { o0 = 0; o1 = 0; o2 = 0; o3 = 0 }) ≡ tooLarge 0
+unfolding exceeds4 tooLarge
+none4 = refl
 
-pub no-oct : octExceeds (record { o0 = 0; o1 = 0; o2 = 0; o3 = 0; o4 = 0; o5 = 0; o6 = 0; o7 = 0 }) ≡ tooLarge 0
-unfolding octExceeds tooLarge
-no-oct = refl
+pub none8 : exceeds8 (record { o0 = 0; o1 = 0; o2 = 0; o3 = 0; o4 = 0; o5 = 0; o6 = 0; o7 = 0 }) ≡ tooLarge 0
+unfolding exceeds8 tooLarge
+none8 = refl

@@ -3,7 +3,7 @@ ghost use mathlib.Core.Bool.{_||_};
 ghost use Prim.Native.Nat.{_+_, _*_, _<_, _≤_};
 ghost use lib.ListN.{length, getD};
 ghost use Rattle.evc_samples.specs.Samples.{tooLarge, rowExceeds, exceeds};
-ghost use Rattle.evc_samples.specs.Inner.{octExceeds, quadExceeds};
+ghost use Rattle.evc_samples.specs.Inner.{exceeds8, exceeds4};
 use evc_def::MAX_SAMPLE_VAL;
 
 // The test at a sample: above 1023 exactly if a bit from 10 up is set, so samples are gathered by an OR.
@@ -21,7 +21,7 @@ fn gather_at(o: u16, s: &[u16], i: usize, j: usize) -> u16
 }
 
 // Gathered by eight or by four samples at once: one vector over all rows.
-struct Oct {
+struct Lanes8 {
     o0: u16,
     o1: u16,
     o2: u16,
@@ -32,18 +32,18 @@ struct Oct {
     o7: u16,
 }
 
-struct Quad {
+struct Lanes4 {
     o0: u16,
     o1: u16,
     o2: u16,
     o3: u16,
 }
 
-fn gather_oct(o: Oct, s: &[u16], i: usize, j: usize) -> Oct
+fn gather8(o: Lanes8, s: &[u16], i: usize, j: usize) -> Lanes8
     requires { ⌜ (i + 8 ≤ length (now s)) × (j + 8 ≤ length (now s)) ⌝ }
-    ensures { λ r. ⌜ octExceeds r ≡ octExceeds o || (rowExceeds (now (s .entry)) i 8 || rowExceeds (now (s .entry)) j 8) ⌝ }
+    ensures { λ r. ⌜ exceeds8 r ≡ exceeds8 o || (rowExceeds (now (s .entry)) i 8 || rowExceeds (now (s .entry)) j 8) ⌝ }
 {
-    Oct {
+    Lanes8 {
         o0: gather_at(o.o0, s, i, j),
         o1: gather_at(o.o1, s, i + 1, j + 1),
         o2: gather_at(o.o2, s, i + 2, j + 2),
@@ -55,11 +55,11 @@ fn gather_oct(o: Oct, s: &[u16], i: usize, j: usize) -> Oct
     }
 }
 
-fn gather_quad(o: Quad, s: &[u16], i: usize, j: usize) -> Quad
+fn gather4(o: Lanes4, s: &[u16], i: usize, j: usize) -> Lanes4
     requires { ⌜ (i + 4 ≤ length (now s)) × (j + 4 ≤ length (now s)) ⌝ }
-    ensures { λ r. ⌜ quadExceeds r ≡ quadExceeds o || (rowExceeds (now (s .entry)) i 4 || rowExceeds (now (s .entry)) j 4) ⌝ }
+    ensures { λ r. ⌜ exceeds4 r ≡ exceeds4 o || (rowExceeds (now (s .entry)) i 4 || rowExceeds (now (s .entry)) j 4) ⌝ }
 {
-    Quad {
+    Lanes4 {
         o0: gather_at(o.o0, s, i, j),
         o1: gather_at(o.o1, s, i + 1, j + 1),
         o2: gather_at(o.o2, s, i + 2, j + 2),
@@ -68,11 +68,11 @@ fn gather_quad(o: Quad, s: &[u16], i: usize, j: usize) -> Quad
 }
 
 // Rows of 8 to 16 samples, each by its first eight and its last eight.
-fn or_octs(s: &[u16], at: usize, stride: usize, n: usize, h: usize) -> u16
+fn or_rows8(s: &[u16], at: usize, stride: usize, n: usize, h: usize) -> u16
     requires { ⌜ (at + h * stride + n ≤ length (now s) + stride) × (8 ≤ n) × (n ≤ 16) ⌝ }
     ensures { λ r. ⌜ tooLarge r ≡ exceeds (now (s .entry)) at stride n h ⌝ }
 {
-    let mut o = Oct {
+    let mut o = Lanes8 {
         o0: 0,
         o1: 0,
         o2: 0,
@@ -84,7 +84,7 @@ fn or_octs(s: &[u16], at: usize, stride: usize, n: usize, h: usize) -> u16
     };
     for y in 0..h {
         let i = at + y * stride;
-        o = gather_oct(o, s, i, i + n - 8);
+        o = gather8(o, s, i, i + n - 8);
     }
     gather(
         gather(
@@ -99,11 +99,11 @@ fn or_octs(s: &[u16], at: usize, stride: usize, n: usize, h: usize) -> u16
 }
 
 // Rows of 4 to 8 samples, each by its first four and its last four.
-fn or_quads(s: &[u16], at: usize, stride: usize, n: usize, h: usize) -> u16
+fn or_rows4(s: &[u16], at: usize, stride: usize, n: usize, h: usize) -> u16
     requires { ⌜ (at + h * stride + n ≤ length (now s) + stride) × (4 ≤ n) × (n ≤ 8) ⌝ }
     ensures { λ r. ⌜ tooLarge r ≡ exceeds (now (s .entry)) at stride n h ⌝ }
 {
-    let mut o = Quad {
+    let mut o = Lanes4 {
         o0: 0,
         o1: 0,
         o2: 0,
@@ -111,7 +111,7 @@ fn or_quads(s: &[u16], at: usize, stride: usize, n: usize, h: usize) -> u16
     };
     for y in 0..h {
         let i = at + y * stride;
-        o = gather_quad(o, s, i, i + n - 4);
+        o = gather4(o, s, i, i + n - 4);
     }
     gather(gather(gather(o.o0, o.o1), o.o2), o.o3)
 }
@@ -121,10 +121,10 @@ fn or_strips(s: &[u16], at: usize, stride: usize, n: usize, h: usize) -> u16
     requires { ⌜ (at + h * stride + n ≤ length (now s) + stride) × (16 ≤ n) × (0 < h) ⌝ }
     ensures { λ r. ⌜ tooLarge r ≡ exceeds (now (s .entry)) at stride n h ⌝ }
 {
-    let mut o = or_octs(s, at + n - 16, stride, 16, h);
+    let mut o = or_rows8(s, at + n - 16, stride, 16, h);
     let mut x = 0;
     while x + 16 < n {
-        o = gather(o, or_octs(s, at + x, stride, 16, h));
+        o = gather(o, or_rows8(s, at + x, stride, 16, h));
         x += 16;
     }
     o
@@ -159,10 +159,10 @@ fn or_window(s: &[u16], at: usize, stride: usize, n: usize, h: usize) -> u16
     ensures { λ r. ⌜ tooLarge r ≡ exceeds (now (s .entry)) at stride n h ⌝ }
 {
     if n <= 8 {
-        return or_quads(s, at, stride, n, h);
+        return or_rows4(s, at, stride, n, h);
     }
     if n <= 16 {
-        return or_octs(s, at, stride, n, h);
+        return or_rows8(s, at, stride, n, h);
     }
     or_strips(s, at, stride, n, h)
 }

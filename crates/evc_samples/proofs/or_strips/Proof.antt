@@ -18,14 +18,14 @@ abbrev μ-loop : tie.MeasureT-loop
 μ-loop s at stride n h o₀ x₀ o x = n - x
 
 loop-holds : tie.Need-loop-holds Inv-loop μ-loop
-loop-holds c = (omega arith, columns-begin _ _ _ _ _ _ (c .or-octs .ensures))
+loop-holds c = (omega arith, columns-begin _ _ _ _ _ _ (c .or-rows8 .ensures))
 
 loop-again : tie.Need-loop-again Inv-loop μ-loop
 loop-again c =
     let z = c .before .before .before .before .before .before .args in
     let i = c .before .before .before .loop in (
       omega arith,
-      columns-more (now (z .s)) (z .at) (z .stride) (z .h) (i .x) 16 (exceeds (now (z .s)) (z .at + z .n - 16) (z .stride) 16 (z .h)) _ _ _ (i .inv .1) (c .before .or-octs2 .ensures) (c .gather .ensures),
+      columns-more (now (z .s)) (z .at) (z .stride) (z .h) (i .x) 16 (exceeds (now (z .s)) (z .at + z .n - 16) (z .stride) 16 (z .h)) _ _ _ (i .inv .1) (c .before .or-rows82 .ensures) (c .gather .ensures),
     )
 
 returns : tie.Need-returns Inv-loop μ-loop

@@ -1,9 +1,9 @@
-use Rattle.evc_samples.proofs.Lanes.{oct-turn}
+use Rattle.evc_samples.proofs.Lanes.{turn8}
 use borrow.Author.Needs.{needs}
-use Rattle.evc_samples.proofs.gather_oct.Statement.{statement}
-use Rattle.evc_samples.proofs.gather_oct.Tie as tie
-use Rattle.evc_samples.proofs.gather_oct.Reads as reads
-use Rattle.evc_samples.proofs.gather_oct.Lts as lts
+use Rattle.evc_samples.proofs.gather8.Statement.{statement}
+use Rattle.evc_samples.proofs.gather8.Tie as tie
+use Rattle.evc_samples.proofs.gather8.Reads as reads
+use Rattle.evc_samples.proofs.gather8.Lts as lts
 use Rattle.evc_samples.proofs.gather_at.Reads as gather-at-reads
 
 -- src/lib.rt:132:13
@@ -97,10 +97,10 @@ gather-at-requires-8 c κs = search needs
 -- src/lib.rt:127:1
 returns : tie.Need-returns
 returns c =
-    oct-turn _ _ _ _ _ (c .before .before .before .before .before .before .before .gather-at .ensures) (c .before .before .before .before .before .before .gather-at2 .ensures) (c .before .before .before .before .before .gather-at3 .ensures) (c .before .before .before .before .gather-at4 .ensures) (c .before .before .before .gather-at5 .ensures) (c .before .before .gather-at6 .ensures) (c .before .gather-at7 .ensures) (c .gather-at8 .ensures)
+    turn8 _ _ _ _ _ (c .before .before .before .before .before .before .before .gather-at .ensures) (c .before .before .before .before .before .before .gather-at2 .ensures) (c .before .before .before .before .before .gather-at3 .ensures) (c .before .before .before .before .gather-at4 .ensures) (c .before .before .before .gather-at5 .ensures) (c .before .before .gather-at6 .ensures) (c .before .gather-at7 .ensures) (c .gather-at8 .ensures)
 
-pub gather-oct-spec : {M : Type 1} → statement M
-gather-oct-spec =
+pub gather8-spec : {M : Type 1} → statement M
+gather8-spec =
     tie.close
     (tie.spec
     gather-at-requires

@@ -1,4 +1,4 @@
--- `evc_samples::or_octs` meets its contract. The invariant: the lanes stand for the first y rows. Assumes nothing.
+-- `evc_samples::or_rows8` meets its contract. The invariant: the lanes stand for the first y rows. Assumes nothing.
 use Prim.Native.Nat.{ℕ, _+_, _-_, _*_, _≤_}
 use mathlib.Core.Bool.{Bool, _||_}
 use mathlib.Core.Path.{_≡_, refl, ap, _∙_}
@@ -7,20 +7,20 @@ use borrow.Author.Needs.{needs}
 use denote.Ref.{now}
 use Rattle.evc_int.proofs.Lists.{row-fits}
 use Rattle.evc_samples.specs.Samples.{tooLarge, rowExceeds, exceeds}
-use Rattle.evc_samples.specs.Inner.{octExceeds}
+use Rattle.evc_samples.specs.Inner.{exceeds8}
 use Rattle.evc_samples.proofs.Samples.{rows-none, rows-more, ends-all}
-use Rattle.evc_samples.proofs.Lanes.{no-oct}
-use Rattle.evc_samples.proofs.or_octs.Statement.{statement}
-use Rattle.evc_samples.proofs.or_octs.Tie as tie
+use Rattle.evc_samples.proofs.Lanes.{none8}
+use Rattle.evc_samples.proofs.or_rows8.Statement.{statement}
+use Rattle.evc_samples.proofs.or_rows8.Tie as tie
 
 abbrev Inv-loop : tie.InvT-loop
-Inv-loop s at stride n h o₀ y₀ o y = (y ≤ h) × (octExceeds o ≡ exceeds s at stride n y)
+Inv-loop s at stride n h o₀ y₀ o y = (y ≤ h) × (exceeds8 o ≡ exceeds s at stride n y)
 
 abbrev μ-loop : tie.MeasureT-loop
 μ-loop s at stride n h o₀ y₀ o y = h - y
 
 loop-holds : tie.Need-loop-holds Inv-loop μ-loop
-loop-holds c = (omega arith, no-oct ∙ rows-none _ _ _ _)
+loop-holds c = (omega arith, none8 ∙ rows-none _ _ _ _)
 
 room : (c : tie.In-loop Inv-loop μ-loop) → c .before .loop .y * c .before .before .before .args .stride + c .before .before .before .args .stride ≤ c .before .before .before .args .h * c .before .before .before .args .stride
 room c = row-fits _ (c .loop-test .taken)
@@ -32,12 +32,12 @@ loop-again c =
     let o = c .before .before .loop .o in
     let row = z .at + y * z .stride in (
       omega arith,
-      rows-more (now (z .s)) (z .at) (z .stride) (z .n) y (octExceeds o) (rowExceeds (now (z .s)) row (z .n)) _ (c .before .before .loop .inv .1) refl
-          (c .gather-oct .ensures ∙ ap (λ (b : Bool). octExceeds o || b) (ends-all (now (z .s)) row (z .n) 8 8 (omega arith) (omega arith) (omega arith))),
+      rows-more (now (z .s)) (z .at) (z .stride) (z .n) y (exceeds8 o) (rowExceeds (now (z .s)) row (z .n)) _ (c .before .before .loop .inv .1) refl
+          (c .gather8 .ensures ∙ ap (λ (b : Bool). exceeds8 o || b) (ends-all (now (z .s)) row (z .n) 8 8 (omega arith) (omega arith) (omega arith))),
     )
 
 returns : tie.Need-returns Inv-loop μ-loop
-unfolding octExceeds
+unfolding exceeds8
 returns c =
     let i = c .before .before .before .before .before .before .before .before .loop in
     let z = c .before .before .before .before .before .before .before .before .before .before .args in
@@ -45,8 +45,8 @@ returns c =
     let e : i .y ≡ z .h = omega arith in
     (c .gather7 .ensures ∙ ap (λ (b : Bool). b || tooLarge (l .o7)) (c .before .gather6 .ensures ∙ ap (λ (b : Bool). b || tooLarge (l .o6)) (c .before .before .gather5 .ensures ∙ ap (λ (b : Bool). b || tooLarge (l .o5)) (c .before .before .before .gather4 .ensures ∙ ap (λ (b : Bool). b || tooLarge (l .o4)) (c .before .before .before .before .gather3 .ensures ∙ ap (λ (b : Bool). b || tooLarge (l .o3)) (c .before .before .before .before .before .gather2 .ensures ∙ ap (λ (b : Bool). b || tooLarge (l .o2)) (c .before .before .before .before .before .before .gather .ensures))))))) ∙ i .inv .1 ∙ ap (λ (m : ℕ). exceeds (now (z .s)) (z .at) (z .stride) (z .n) m) e
 
-pub or-octs-spec : {M : Type 1} → statement M
-or-octs-spec =
+pub or-rows8-spec : {M : Type 1} → statement M
+or-rows8-spec =
     tie.close
     (tie.spec
     Inv-loop

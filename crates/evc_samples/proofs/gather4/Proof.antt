@@ -1,9 +1,9 @@
-use Rattle.evc_samples.proofs.Lanes.{quad-turn}
+use Rattle.evc_samples.proofs.Lanes.{turn4}
 use borrow.Author.Needs.{needs}
-use Rattle.evc_samples.proofs.gather_quad.Statement.{statement}
-use Rattle.evc_samples.proofs.gather_quad.Tie as tie
-use Rattle.evc_samples.proofs.gather_quad.Reads as reads
-use Rattle.evc_samples.proofs.gather_quad.Lts as lts
+use Rattle.evc_samples.proofs.gather4.Statement.{statement}
+use Rattle.evc_samples.proofs.gather4.Tie as tie
+use Rattle.evc_samples.proofs.gather4.Reads as reads
+use Rattle.evc_samples.proofs.gather4.Lts as lts
 use Rattle.evc_samples.proofs.gather_at.Reads as gather-at-reads
 
 -- src/lib.rt:148:13
@@ -48,10 +48,10 @@ gather-at-requires-4 c κs = search needs
 
 -- src/lib.rt:143:1
 returns : tie.Need-returns
-returns c = quad-turn _ _ _ _ _ (c .before .before .before .gather-at .ensures) (c .before .before .gather-at2 .ensures) (c .before .gather-at3 .ensures) (c .gather-at4 .ensures)
+returns c = turn4 _ _ _ _ _ (c .before .before .before .gather-at .ensures) (c .before .before .gather-at2 .ensures) (c .before .gather-at3 .ensures) (c .gather-at4 .ensures)
 
-pub gather-quad-spec : {M : Type 1} → statement M
-gather-quad-spec =
+pub gather4-spec : {M : Type 1} → statement M
+gather4-spec =
     tie.close
     (tie.spec
     gather-at-requires
