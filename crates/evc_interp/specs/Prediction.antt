@@ -18,10 +18,11 @@ use Rattle.evc_filter.specs.Filter.{phases, lead, reach, interpolated, interpol
 use Rattle.evc_plane.specs.declared.PlaneType.{PlaneType}
 use Rattle.evc_plane.specs.declared.PlaneType.the-variants.{Y, UV}
 
--- "the phase and place from the given signed 16-bit position (its low 2 bits, and the position >> 2; chroma 3)"
+-- "the phase and place from the given signed 16-bit position (its low 2 bits, and the position >> 2; chroma 3)": of z quarter samples
 unfoldable pub phaseOf : PlaneType → ℤ → ℕ
 phaseOf t z = z modulo phases t
 
+-- that place is in whole samples, the Rust's pel
 unfoldable pub pelOf : PlaneType → ℤ → ℤ
 pelOf t z = shrZ z (phases t)
 
