@@ -159,15 +159,15 @@ wholeSample = 4
 
 -- where it is hidden in one direction of a plane, W, x and w being the picture's side, the block's place and its side: the plane's block has at most 32 samples
 -- there, or clipping leaves the vector as it is, or raises or lowers it by a whole luma sample or more
-pub data Hidden (k : PlaneType) (W x w : ℕ) (mv : ℤ) : Type 0 where
-  small : sideOf k w ≤ 32 → Hidden k W x w mv
-  kept : clipComponent W x w mv ≡ mv → Hidden k W x w mv
-  raised : (mv +ℤ pos wholeSample) ≤ℤ clipComponent W x w mv → Hidden k W x w mv
-  lowered : (clipComponent W x w mv +ℤ pos wholeSample) ≤ℤ mv → Hidden k W x w mv
+pub data Hidden (t : PlaneType) (W x w : ℕ) (mv : ℤ) : Type 0 where
+  small : sideOf t w ≤ 32 → Hidden t W x w mv
+  kept : clipComponent W x w mv ≡ mv → Hidden t W x w mv
+  raised : (mv +ℤ pos wholeSample) ≤ℤ clipComponent W x w mv → Hidden t W x w mv
+  lowered : (clipComponent W x w mv +ℤ pos wholeSample) ≤ℤ mv → Hidden t W x w mv
 
-pub record HiddenList (k : PlaneType) (b : EvcBlock) (l : EvcList) : Type 0 where
-  pub across : l .used ≡ true → Hidden k (b .«pic_w») (b .x) (b .w) (l .mv .x)
-  pub down : l .used ≡ true → Hidden k (b .«pic_h») (b .y) (b .h) (l .mv .y)
+pub record HiddenList (t : PlaneType) (b : EvcBlock) (l : EvcList) : Type 0 where
+  pub across : l .used ≡ true → Hidden t (b .«pic_w») (b .x) (b .w) (l .mv .x)
+  pub down : l .used ≡ true → Hidden t (b .«pic_h») (b .y) (b .h) (l .mv .y)
 
 -- so it shows in luma alone, with a side of 64, where clipping moves a vector by 1 to 3 quarters of a sample
 abbrev pub ClippingHidden : Type 0
