@@ -39,7 +39,7 @@ module _ (p : Pocs) (mv : EvcMv) where
   none e = rw (eq-eqb (p .poc1) (p .«list_poc0») e)
 
   both : (r s : EvcMv) → (p .poc1 ≡ p .«list_poc0» → ⊥) → r ≡ scaledBy (dpoc0 p) (dpocCo p) mv → s ≡ scaledBy (dpoc1 p) (dpocCo p) mv → record { code = 0; mv0 = r; mv1 = s } ≡ directVectors p mv
-  unfolding directVectors exactQuotients low16
+  unfolding directVectors exactQuotients
   both r s n e f = rw (ne-eqb (p .poc1) (p .«list_poc0») n, e, f)
 
   -- -(poc1 - poc) is the distance the other way round
