@@ -27,7 +27,9 @@ pub struct EvcAvail {
 // Whether the unit that lies `back` before an index is coded and not intra. A unit outside the picture is not.
 fn is_inter(map_scu: &[u32], has: bool, scup: Scu, back: Scu) -> bool
     requires { ⌜ (has ≡ true → (back .0 ≤ scup .0) × (scup .0 - back .0 < length (now «map_scu»))) ⌝ }
-    ensures { λ r. ⌜ r ≡ (has && isCoded (wordAt (now («map_scu» .entry)) (scup .0 - back .0)) && not (isIntra (wordAt (now («map_scu» .entry)) (scup .0 - back .0)))) ⌝ }
+    ensures { λ r. ⌜ (
+        let word = wordAt (now («map_scu» .entry)) (scup .0 - back .0) in
+        r ≡ (has && isCoded word && not (isIntra word))) ⌝ }
 {
     if !has {
         return false;

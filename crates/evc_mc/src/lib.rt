@@ -125,8 +125,12 @@ fn predict_list(
     requires { ⌜ (firstOf (blockChecks b) ≡ 0) × (gmv ≡ clippedPlace b (list .mv)) ⌝ }
     requires { ⌜ ListExamined b gmv (refPicList list (now y) (now u) (now v)) ⌝ }
     requires { ⌜ (predLen ≤ length (now pred0)) × (predLen ≤ length (now pred1)) ⌝ }
-    ensures { λ _. ⌜ now (pred0 .exit) ≡ cond second (now (pred0 .entry)) (withList b (refPicList list (now (y .entry)) (now (u .entry)) (now (v .entry))) (now (pred0 .entry))) ⌝ }
-    ensures { λ _. ⌜ now (pred1 .exit) ≡ cond second (withList b (refPicList list (now (y .entry)) (now (u .entry)) (now (v .entry))) (now (pred1 .entry))) (now (pred1 .entry)) ⌝ }
+    ensures { λ _. ⌜ (
+        let l = refPicList list (now (y .entry)) (now (u .entry)) (now (v .entry)) in
+        now (pred0 .exit) ≡ cond second (now (pred0 .entry)) (withList b l (now (pred0 .entry)))) ⌝ }
+    ensures { λ _. ⌜ (
+        let l = refPicList list (now (y .entry)) (now (u .entry)) (now (v .entry)) in
+        now (pred1 .exit) ≡ cond second (withList b l (now (pred1 .entry))) (now (pred1 .entry))) ⌝ }
 {
     if !list.used {
         return;
