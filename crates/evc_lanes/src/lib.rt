@@ -25,7 +25,8 @@ pub fn put8(
     v7: u16,
 )
     requires { ⌜ to + 8 ≤ length (now d) ⌝ }
-    ensures { λ _. ⌜ ((f : ℕ → ℕ) → v0 ≡ f 0 → v1 ≡ f 1 → v2 ≡ f 2 → v3 ≡ f 3 → v4 ≡ f 4 → v5 ≡ f 5 → v6 ≡ f 6 → v7 ≡ f 7 → now (d .exit) ≡ withRow (now (d .entry)) to 8 f) ⌝ }
+    ensures { λ _. ⌜ ((f : ℕ → ℕ) → v0 ≡ f 0 → v1 ≡ f 1 → v2 ≡ f 2 → v3 ≡ f 3 → v4 ≡ f 4 → v5 ≡ f 5 → v6 ≡ f 6 → v7 ≡ f 7 →
+        now (d .exit) ≡ withRow (now (d .entry)) to 8 f) ⌝ }
 {
     d[to] = v0;
     d[to + 1] = v1;
