@@ -1,6 +1,6 @@
 ghost use mathlib.Core.Path.{_≡_};
 ghost use mathlib.Core.Bool.{not, _&&_};
-ghost use Prim.Native.Nat.{ℕ, _+_, _<_, _^_};
+ghost use Prim.Native.Nat.{_+_, _<_, _^_};
 ghost use lib.Dec.{leb, eqb};
 ghost use lib.ListN.{getD};
 ghost use lib.IntN.{pos, _+ℤ_, _-ℤ_, _*ℤ_};

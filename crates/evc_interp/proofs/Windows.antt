@@ -1,7 +1,7 @@
 -- Every path reads only what was examined: its clamped window lies in that of both directions. Assumes nothing.
 use Rattle.evc_plane.specs.declared.PlaneConfig.{PlaneConfig}
 use Rattle.evc_samples.specs.Samples.{exceeds}
-use mathlib.Core.Bool.{Bool, true, false, cond, not, _&&_, _||_}
+use mathlib.Core.Bool.{Bool, true, false, cond, not, _||_}
 use mathlib.Core.List.{List}
 use mathlib.Core.Logic.{⊎-elim}
 use mathlib.Core.Path.{_≡_, refl, sym, ap, subst, _∙_}

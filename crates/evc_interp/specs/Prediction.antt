@@ -9,7 +9,7 @@ use lib.Signed.{shrZ}
 use Rattle.evc_int.specs.Whole.{−_, _modulo_}
 use Rattle.evc_int.specs.Lists.{withBlock}
 use Rattle.evc_def.specs.Blocks.{isBlockSide, badPicture}
-use Rattle.evc_def.specs.Codes.{Check, _when_, firstOf}
+use Rattle.evc_def.specs.Codes.{_when_, firstOf}
 use Rattle.evc_def.specs.declared.EvcMv.{EvcMv}
 use Rattle.evc_def.specs.declared.QpelPlace.{QpelPlace}
 use Rattle.evc_plane.specs.Planes.{strideOf, planeLen, windowStart}

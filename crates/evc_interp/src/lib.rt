@@ -1,14 +1,14 @@
 ghost use mathlib.Core.Path.{_≡_};
 ghost use mathlib.Core.Bool.{true, false, _||_};
 ghost use lib.Dec.{ltb};
-ghost use Prim.Native.Nat.{ℕ, _+_, _*_, _<_, _≤_};
+ghost use Prim.Native.Nat.{_+_, _*_, _<_, _≤_};
 ghost use lib.IntN.{pos};
 ghost use lib.ListN.{length};
 ghost use Rattle.evc_int.specs.Lists.{withBlock};
 ghost use Rattle.evc_def.specs.Blocks.{badPicture};
 ghost use Rattle.evc_def.specs.Places.{givenPlace};
 ghost use Rattle.evc_plane.specs.Planes.{planeLen};
-ghost use Rattle.evc_filter.specs.Filter.{lead, reach};
+ghost use Rattle.evc_filter.specs.Filter.{lead};
 ghost use Rattle.evc_interp.specs.Prediction.{phaseOf, pelOf, isFiltered, startOf, windowOf, isSide, windowExceeds, mcPlaneCode, mcPlaneAfter};
 ghost use Rattle.evc_interp.specs.declared.Position.{Position};
 ghost use Rattle.evc_interp.specs.Inner.{positionOf, Readable, sampleFrom};

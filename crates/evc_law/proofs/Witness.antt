@@ -11,7 +11,7 @@ use Rattle.evc_def.proofs.Codes.{passed, none}
 use Rattle.evc_pad.specs.Padding.{padCode, padAfter}
 use Rattle.evc_plane.specs.Planes.{sideOf, strideOf, planeLen, pictureStart}
 use Rattle.evc_samples.proofs.Samples.{none-exceeds}
-use Rattle.evc_mc.specs.Block.{RefPicList, Component, luma, cb, cr, typeOf, planeOf, predLen}
+use Rattle.evc_mc.specs.Block.{Component, luma, cb, cr, typeOf, planeOf, predLen}
 use Rattle.evc_def.specs.declared.EvcMv.{EvcMv}
 use Rattle.evc_law.specs.Demand3.{Premises, Accepted, flatPicture, flatList, witness, Witness}
 use Rattle.evc_law.proofs.Calls.{accepts-call}

@@ -1,6 +1,6 @@
 -- Demand 3, in the words of document 01, 'What demand 3 compares'. Each statement speaks of the definitions that evc_mc2's contract equates its answer and its
 -- first block with, so it holds of every call. evc_law/proofs/Theorems proves them.
-use mathlib.Core.Bool.{Bool, true, cond, _&&_}
+use mathlib.Core.Bool.{true, cond, _&&_}
 use mathlib.Core.List.{List}
 use mathlib.Core.Path.{_≡_}
 use Prim.Native.Nat.{ℕ, _+_, _*_, _-_, _/_, _≤_, _<_}

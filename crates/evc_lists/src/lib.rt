@@ -1,6 +1,5 @@
 //! What the programs that replay lists share: the numbers of a record, how much of a buffer is lent, arbitrary samples, the pictures of two lists, and what is
 //! printed. rust/README.md has the records.
-ghost use mathlib.Core.Path.{_≡_};
 ghost use Prim.Native.Nat.{_+_, _*_, _<_, _≤_};
 ghost use lib.ListN.{length};
 use evc_def::EvcMv;

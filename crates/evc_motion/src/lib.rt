@@ -63,7 +63,7 @@ fn maps_short(b: EvcBlock, map_mv: usize, has_col: bool, col_mv: usize) -> bool
         | (has_col & evc_map::map_short(b.pic_w, b.pic_h, col_mv))
 }
 
-pub fn motion_code(
+fn motion_code(
     b: EvcBlock,
     lidx: u32,
     avail: u16,
@@ -89,7 +89,7 @@ pub fn motion_code(
     0
 }
 
-pub fn candidates(
+fn candidates(
     b: EvcBlock,
     lidx: usize,
     avail: u16,

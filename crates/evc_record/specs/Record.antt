@@ -6,7 +6,7 @@ use lib.Dec.{ltb, eqb}
 use lib.IntN.{ℤ}
 use lib.ListN.{length, replicate}
 use Rattle.evc_int.specs.Lists.{withBlock}
-use Rattle.evc_def.specs.Codes.{Check, _when_, firstOf, zeroMv}
+use Rattle.evc_def.specs.Codes.{_when_, firstOf, zeroMv}
 use Rattle.evc_def.specs.declared.EvcBlock.{EvcBlock}
 use Rattle.evc_def.specs.declared.EvcMv.{EvcMv}
 use Rattle.evc_plane.specs.Planes.{sideOf, padOf, originOf, strideOf}

@@ -1,15 +1,14 @@
 -- The records of a trace one after another: a turn of the loop, a refusal, and the end. Assumes nothing.
 use mathlib.Core.Bool.{Bool, cond}
 use mathlib.Core.List.{List, [], _∷_}
-use mathlib.Core.Path.{_≡_, refl, sym, ap, subst, _∙_}
+use mathlib.Core.Path.{_≡_, refl, sym, ap, subst}
 use Prim.Native.Nat.{ℕ, zero, suc, _+_, _-_, _/_, _<_, _≤_}
 use native.Mathlib.Omega.{arith}
 use borrow.Author.Tests.{ne-eqb}
-use lib.Dec.{eqb}
 use lib.ListN.{length, take, drop, length-take, length-drop}
 use Rattle.evc_record.specs.Record.{Planes, Source, _orElse_, formCode, recordCode, targetAfter}
 use Rattle.evc_record.specs.Inner.{afterRecord}
-use Rattle.evc_replay.specs.Replay.{Replayed, recordsAt, recordsFrom, applied}
+use Rattle.evc_replay.specs.Replay.{recordsAt, recordsFrom, applied}
 use Rattle.evc_record.proofs.Steps.{whole-record}
 
 pub next-record : (s : List ℕ) (at : ℕ) → at < length s → recordsFrom s at ≡ take 22 (drop at s) ∷ recordsFrom s (at + 22)

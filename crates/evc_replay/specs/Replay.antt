@@ -6,7 +6,7 @@ use lib.Dec.{ltb, eqb}
 use lib.IntN.{ℤ}
 use lib.ListN.{length, take, drop}
 use Rattle.evc_def.specs.Blocks.{badPicture}
-use Rattle.evc_def.specs.Codes.{Check, _when_, firstOf}
+use Rattle.evc_def.specs.Codes.{_when_, firstOf}
 use Rattle.evc_map.specs.Maps.{mapShort}
 use Rattle.evc_trace.specs.Format.{version, headerLen, recordLen, countLen, isTrace, headerOf}
 use Rattle.evc_record.specs.Record.{Planes, pictureShort, Source, source, stepOf, targetAfter}

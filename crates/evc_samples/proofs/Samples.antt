@@ -2,14 +2,14 @@
 -- Assumes nothing.
 use Prim.Native.Nat.{ℕ, zero, suc, _+_, _*_, _-_, _<_, _≤_}
 use mathlib.Core.Bool.{Bool, true, false, _||_}
-use mathlib.Core.Path.{_≡_, refl, sym, ap, ap₂, subst, _∙_}
+use mathlib.Core.Path.{_≡_, refl, sym, ap, ap₂, _∙_}
 use mathlib.Core.List.{List}
 use mathlib.Core.Logic.{⊎-elim}
 use native.Mathlib.Omega.{arith}
 use native.Mathlib.Numerals.{add-one}
 use native.Mathlib.Nat.{zero-add, eq-or-lt-of-le, le-of-suc-le-suc, not-suc-le-zero}
 use lib.Bits.{bitOr, bitAnd, or-lt, or-add-and, and-le-l, and-le-r}
-use lib.Dec.{T, ltb}
+use lib.Dec.{ltb}
 use lib.ListN.{getD, drop}
 use lib.Seq.{getD-drop}
 use borrow.Author.Tests.{ltb-true, ltb-false, lt-ltb, le-ltb}

@@ -9,7 +9,7 @@ use Rattle.evc_int.specs.Whole.{eqZ, _modulo_}
 use Rattle.evc_int.specs.LowBits.{signed16}
 use Rattle.evc_bytes.specs.Bytes.{bytesOf, numberAt}
 use Rattle.evc_def.specs.Blocks.{badPicture}
-use Rattle.evc_def.specs.Codes.{Check, _when_, firstOf}
+use Rattle.evc_def.specs.Codes.{_when_, firstOf}
 use Rattle.evc_def.specs.declared.EvcMv.{EvcMv}
 use Rattle.evc_trace.specs.declared.TraceHeader.{TraceHeader}
 use Rattle.evc_trace.specs.declared.EvcTraceRecord.{EvcTraceRecord}

@@ -1,9 +1,7 @@
 ghost use mathlib.Core.Path.{_≡_};
-ghost use mathlib.Core.Bool.{false};
 ghost use mathlib.Core.List.{_++_};
 ghost use Prim.Native.Nat.{_+_, _≤_};
 ghost use lib.ListN.{length};
-ghost use Rattle.evc_def.specs.Blocks.{badPicture};
 ghost use Rattle.evc_bytes.specs.Bytes.{bytesOf};
 ghost use Rattle.evc_bytes.specs.Inner.{written};
 ghost use Rattle.evc_trace.specs.Format.{version, countLen, headerLen, mark, headerBytes, isTrace, headerOf, overwritten, writeHeaderCode, writeHeaderAfter};

@@ -1,5 +1,5 @@
 -- W1's laws of replay: the record count, one trace behind the other, a refusal, and what the target keeps. Assumes nothing.
-use mathlib.Core.Bool.{Bool, true, false, cond, _&&_}
+use mathlib.Core.Bool.{Bool, true, false, cond}
 use mathlib.Core.List.{List, [], _∷_, _++_, append-assoc}
 use mathlib.Core.Path.{_≡_, refl, sym, ap, ap₂, subst, _∙_}
 use Prim.Native.Nat.{ℕ, zero, suc, _+_, _-_, _*_, _/_, _<_, _≤_}
@@ -11,14 +11,13 @@ use lib.IntN.{ℤ}
 use lib.ListN.{length, getD, take, drop, length-append, length-drop, List·getD-append, take-append-drop}
 use lib.Seq.{length-take-le}
 use Rattle.evc_def.specs.Codes.{firstOf, blockChecks}
-use Rattle.evc_bytes.specs.Bytes.{numberAt}
-use Rattle.evc_trace.specs.Format.{version, countLen, headerLen, isTrace, headerOf}
+use Rattle.evc_trace.specs.Format.{version, countLen, isTrace, headerOf}
 use Rattle.evc_trace.specs.declared.TraceHeader.{TraceHeader}
 use Rattle.evc_record.specs.Record.{Planes, Source, source, recordCode, targetAfter, pictureShort}
 use Rattle.evc_replay.specs.Replay.{headerCode, Replayed, recordsAt, recordsFrom, applied, replayed}
 use Rattle.evc_replay.proofs.Header.{code-11}
 use Rattle.evc_replay.proofs.Records.{no-more, ended}
-use Rattle.evc_mc.specs.Block.{Component, luma, cb, cr}
+use Rattle.evc_mc.specs.Block.{luma, cb, cr}
 use Rattle.evc_mc.proofs.Checks.{sides}
 use Rattle.evc_trace_law.specs.Replays.{Whole, countedFrom, replay, Counted, OneAfterAnother, Refused, Complete, planeIn, blockAt, OutsideBlock, OutsideKept, BorderKept, ExcessKept, LengthsKept, Replays}
 use Rattle.evc_trace_law.proofs.Records.{records-append, records-count}

@@ -1,23 +1,22 @@
 -- W1's round trip: header and record, at every width of the counts, and through the calls. Assumes nothing.
-use Prim.Native.Nat.{ℕ, _+_, _*_, _/_, _%_, _^_, _<_, _≤_}
+use Prim.Native.Nat.{ℕ, _+_, _*_, _/_, _%_, _<_, _≤_}
 use mathlib.Core.Bool.{Bool, true, false, not, _&&_}
 use mathlib.Core.List.{List, [], _∷_, _++_, append-assoc}
-use mathlib.Core.Path.{_≡_, refl, sym, ap, ap₂, subst, _∙_}
+use mathlib.Core.Path.{_≡_, refl, sym, ap, subst, _∙_}
 use native.Mathlib.Omega.{arith}
 use lib.Dec.{T, eqb, eqb→eq}
 use lib.ListN.{length, length-append, getD, take, drop}
 use lib.Seq.{getD-at}
-use borrow.Author.Tests.{eq-eqb, not-false, le-ltb, ltb-false}
+use borrow.Author.Tests.{eq-eqb, not-false, le-ltb}
 use Rattle.evc_int.proofs.Bools.{both-true, all-true}
 use Rattle.evc_def.specs.Blocks.{badPicture}
 use Rattle.evc_def.proofs.Codes.{accepted, passed, none}
-use Rattle.evc_def.specs.declared.EvcMv.{EvcMv}
 use Rattle.evc_bytes.specs.Bytes.{bytesOf, numberAt}
-use Rattle.evc_trace.specs.Format.{version, countLen, mark, headerLen, headerBytes, isTrace, headerOf, mvBytes, mvOf, recordLen, recordBytes, recordOf, lastByte, isWellFormed, overwritten, overwrittenBy, writeHeaderCode, writeRecordCode}
+use Rattle.evc_trace.specs.Format.{version, countLen, mark, headerBytes, isTrace, headerOf, mvBytes, mvOf, recordBytes, recordOf, lastByte, isWellFormed, overwritten, overwrittenBy, writeRecordCode}
 use Rattle.evc_trace.specs.declared.TraceHeader.{TraceHeader}
 use Rattle.evc_trace.specs.declared.EvcTraceRecord.{EvcTraceRecord}
 use Rattle.evc_record.specs.Record.{formCode}
-use Rattle.evc_trace_law.specs.RoundTrip.{HeaderFits, RecordFits, Bytes, HeaderRead, RecordRead, HeaderRewritten, RecordRewritten, HeaderAccepted, RecordAccepted, RecordReturned, RoundTrip}
+use Rattle.evc_trace_law.specs.RoundTrip.{HeaderRead, RecordRead, HeaderRewritten, RecordRewritten, HeaderAccepted, RecordAccepted, RecordReturned, RoundTrip}
 use Rattle.evc_trace_law.proofs.Bytes.{length-bytes, pair-read, two, component, part, all-of, join, byte-back, number-back, component-back}
 
 -- ---- the header

@@ -14,10 +14,9 @@ use Rattle.evc_def.specs.Codes.{firstOf, blockChecks}
 use Rattle.evc_def.specs.declared.EvcBlock.{EvcBlock}
 use Rattle.evc_def.proofs.Blocks.{allowed-block}
 use Rattle.evc_plane.specs.Planes.{sideOf, padOf, originOf, strideOf, planeLen, configOf}
-use Rattle.evc_plane.specs.declared.PlaneType.{PlaneType}
 use Rattle.evc_plane.proofs.Sizes.{sizes, rows}
 use Rattle.evc_mc.specs.Block.{Component, luma, cb, cr, typeOf, widthOf, heightOf}
-use Rattle.evc_mc.proofs.Checks.{accepts, sides}
+use Rattle.evc_mc.proofs.Checks.{accepts}
 use Rattle.evc_trace.specs.Format.{countLen, recordOf}
 use Rattle.evc_record.specs.Record.{Planes, Source, motion, refList0, refList1, blank, blockOf, formCode, blockCode, recordCode, stepOf, placeIn, withPicture, planeAfter, targetAfter}
 use Rattle.evc_replay.specs.Replay.{Replayed, applied}

@@ -1,6 +1,5 @@
 -- `evc_record::predict_record` meets its contract. Assumes nothing.
 use borrow.Author.Needs.{needs}
-use mathlib.Core.Path.{_≡_}
 use Rattle.evc_record.proofs.Steps.{predicted}
 use Rattle.evc_record.proofs.predict_record.Statement.{statement}
 use Rattle.evc_record.proofs.predict_record.Tie as tie

@@ -1,6 +1,6 @@
 -- `evc_record::put_block` meets its contract. Assumes nothing.
 use borrow.Author.Needs.{needs}
-use mathlib.Core.Path.{_≡_, refl}
+use mathlib.Core.Path.{refl}
 use native.Mathlib.Omega.{arith}
 use Rattle.evc_mc.specs.Block.{luma, cb, cr}
 use Rattle.evc_record.specs.Record.{planes}

@@ -1,11 +1,9 @@
 -- `evc_record::put_component` meets its contract. Assumes nothing.
 use borrow.Author.Needs.{needs}
-use mathlib.Core.List.{List}
-use mathlib.Core.Path.{_≡_, refl, _∙_}
+use mathlib.Core.Path.{_≡_, _∙_}
 use Prim.Native.Nat.{ℕ, _+_, _*_, _<_, _≤_}
 use native.Mathlib.Omega.{arith}
 use lib.ListN.{length}
-use Rattle.evc_plane.specs.Planes.{sideOf}
 use Rattle.evc_mc.proofs.Checks.{sides}
 use Rattle.evc_record.proofs.Places.{column-small, row-small, row-width, block-within, block-placed}
 use Rattle.evc_record.proofs.put_component.Statement.{statement}

@@ -1,11 +1,10 @@
 -- `evc_replay::replay_records` meets its contract. The invariant: what is left of the records, applied to the target as it is, gives what all of them
 -- give. Assumes nothing.
-use mathlib.Core.Path.{_≡_, refl, sym, subst, _∙_}
-use Prim.Native.Nat.{ℕ, _+_, _-_, _<_, _≤_}
+use mathlib.Core.Path.{_≡_, refl, sym, _∙_}
+use Prim.Native.Nat.{_+_, _-_, _<_, _≤_}
 use native.Mathlib.Omega.{arith}
-use borrow.Author.Needs.{needs}
 use lib.ListN.{length}
-use Rattle.evc_record.specs.Record.{planes, source, recordCode}
+use Rattle.evc_record.specs.Record.{planes, source}
 use Rattle.evc_replay.specs.Replay.{recordsFrom, applied}
 use Rattle.evc_record.proofs.Places.{still-long}
 use Rattle.evc_replay.proofs.Records.{complete, went-on, stopped, ended}
