@@ -1,4 +1,5 @@
-/* The archive from C: the header's layout, and each call with a line of document 01 or 02 and a refusal. */
+/* The archive from C: the header's layout, each call with a line of document 01 or 02 and a refusal, and the header's
+   constants and helpers against the calls. */
 #include <stdio.h>
 #include <string.h>
 #include "evc_inter.h"
@@ -8,14 +9,17 @@
 
 /* The numbers of rust/evc-inter/src/types.rs. */
 SIZE(EvcMv, 4, 2); AT(EvcMv, y, 2);
-SIZE(EvcBlock, 24, 4); AT(EvcBlock, pic_h, 4); AT(EvcBlock, x, 8); AT(EvcBlock, y, 12); AT(EvcBlock, w, 16); AT(EvcBlock, h, 20);
+SIZE(EvcBlock, 24, 4); AT(EvcBlock, pic_h, 4); AT(EvcBlock, x, 8); AT(EvcBlock, y, 12);
+AT(EvcBlock, w, 16); AT(EvcBlock, h, 20);
 SIZE(EvcList, 12, 4); AT(EvcList, used, 0); AT(EvcList, mv, 2); AT(EvcList, poc, 8);
 SIZE(EvcAvail, 8, 4); AT(EvcAvail, avail, 4);
 SIZE(EvcClipped, 8, 4); AT(EvcClipped, mv, 4);
 SIZE(EvcDirect, 12, 4); AT(EvcDirect, mv0, 4); AT(EvcDirect, mv1, 8);
-SIZE(EvcCandidates, 20, 2); AT(EvcCandidates, up, 4); AT(EvcCandidates, up_right, 8); AT(EvcCandidates, collocated, 12); AT(EvcCandidates, refi, 16);
-SIZE(EvcTraceRecord, 22, 2); AT(EvcTraceRecord, x, 0); AT(EvcTraceRecord, y, 2); AT(EvcTraceRecord, w, 4); AT(EvcTraceRecord, h, 6); AT(EvcTraceRecord, kind, 8);
-AT(EvcTraceRecord, mv0, 10); AT(EvcTraceRecord, mv1, 14); AT(EvcTraceRecord, poc0, 18); AT(EvcTraceRecord, poc1, 20);
+SIZE(EvcCandidates, 20, 2); AT(EvcCandidates, up, 4); AT(EvcCandidates, up_right, 8);
+AT(EvcCandidates, collocated, 12); AT(EvcCandidates, refi, 16);
+SIZE(EvcTraceRecord, 22, 2); AT(EvcTraceRecord, x, 0); AT(EvcTraceRecord, y, 2); AT(EvcTraceRecord, w, 4);
+AT(EvcTraceRecord, h, 6); AT(EvcTraceRecord, kind, 8); AT(EvcTraceRecord, mv0, 10); AT(EvcTraceRecord, mv1, 14);
+AT(EvcTraceRecord, poc0, 18); AT(EvcTraceRecord, poc1, 20);
 SIZE(EvcReplay, 16, 8); AT(EvcReplay, code, 0); AT(EvcReplay, index, 8);
 SIZE(EvcCamera, 24, 8); AT(EvcCamera, code, 0); AT(EvcCamera, kind, 4); AT(EvcCamera, x, 8); AT(EvcCamera, y, 16);
 
@@ -23,9 +27,12 @@ static int failed;
 #define HOLDS(what) ((what) ? (void)0 : (void)(failed = 1, printf("line %d: %s\n", __LINE__, #what)))
 
 /* A picture of 8 by 8: strides 176 and 96, rows 168 and 84. */
-enum { LUMA = 176 * 168, CHROMA = 96 * 84, CU = 6144 };
+enum { LUMA = 176 * 168, CHROMA = 96 * 84, CU = EVC_CU_LEN };
 static uint16_t y0[LUMA], u0[CHROMA], v0[CHROMA], y1[LUMA], u1[CHROMA], v1[CHROMA], pred0[CU], pred1[CU], kept[CU];
 static uint16_t y[LUMA], u[CHROMA], v[CHROMA];
+#define PLANES0 y0, LUMA, u0, CHROMA, v0, CHROMA
+#define PLANES1 y1, LUMA, u1, CHROMA, v1, CHROMA
+#define EMPTY NULL, 0, NULL, 0, NULL, 0
 
 static void grey(uint16_t *plane, size_t len, uint16_t sample) {
     for (size_t k = 0; k < len; k++) plane[k] = sample;
@@ -42,107 +49,274 @@ static bool reads(EvcCamera c, uint32_t code, uint32_t kind, double x, double y)
     return c.code == code && c.kind == kind && bits(c.x) == bits(x) && bits(c.y) == bits(y);
 }
 
+static void messages(void) {
+    const uint32_t codes[] = {EVC_OK, EVC_BAD_PICTURE, EVC_BAD_BLOCK, EVC_BAD_LIST, EVC_SHORT_BUFFER, EVC_BAD_POC,
+                              EVC_BAD_SAMPLE, EVC_BAD_NEIGHBOUR, EVC_BAD_MARK, EVC_INCOMPLETE, EVC_BAD_RECORD};
+    const uint32_t numbers[] = {0, 1, 2, 3, 4, 5, 6, 7, 10, 11, 12}, others[] = {8, 9, 13, UINT32_MAX};
+    const char *other = evc_message(8);
+    HOLDS(!memcmp(codes, numbers, sizeof codes));
+    HOLDS(!strcmp(evc_message(EVC_OK), "done"));
+    for (size_t i = 0; i < sizeof others / sizeof *others; i++) HOLDS(!strcmp(evc_message(others[i]), other));
+    for (size_t i = 0; i < sizeof codes / sizeof *codes; i++) {
+        HOLDS(strcmp(evc_message(codes[i]), other) != 0);
+        for (size_t k = 0; k < i; k++) HOLDS(strcmp(evc_message(codes[i]), evc_message(codes[k])) != 0);
+    }
+}
+
+/* A plane is as long as evc_pad asks for, and the samples that evc_pad looks at are those of evc_plane_at. */
+static void planes(void) {
+    const uint32_t sides[][2] = {{4, 4}, {4, 12}, {20, 8}, {36, 36}, {72, 4}, {416, 240}};
+    const uint32_t refused[][2] = {{0, 4}, {4, 0}, {6, 4}, {4, 8132}, {UINT32_MAX, 4}, {4, UINT32_MAX - 3}};
+    static uint16_t plane[576 * 400];
+    for (int chroma = 0; chroma < 2; chroma++) {
+        for (size_t i = 0; i < sizeof sides / sizeof *sides; i++) {
+            const uint32_t w = sides[i][0], h = sides[i][1];
+            const EvcPlaneLayout p = evc_plane_layout(chroma, w, h);
+            HOLDS(p.len <= sizeof plane / sizeof *plane && p.len == p.stride * p.rows);
+            HOLDS(p.width == w / (chroma ? 2 : 1) && p.height == h / (chroma ? 2 : 1));
+            grey(plane, p.len, EVC_MAX_SAMPLE + 1);
+            for (size_t row = 0; row < p.height; row++)
+                for (size_t x = 0; x < p.width; x++) plane[evc_plane_at(&p, x, row)] = EVC_MAX_SAMPLE;
+            HOLDS(evc_pad(chroma, w, h, plane, p.len - 1) == EVC_SHORT_BUFFER);
+            HOLDS(evc_pad(chroma, w, h, plane, p.len) == EVC_OK && plane[p.len - 1] == EVC_MAX_SAMPLE);
+            for (size_t row = 0; row < p.height; row += p.height - 1)
+                for (size_t x = 0; x < p.width; x += p.width - 1) {
+                    plane[evc_plane_at(&p, x, row)] = EVC_MAX_SAMPLE + 1;
+                    HOLDS(evc_pad(chroma, w, h, plane, p.len) == EVC_BAD_SAMPLE);
+                    plane[evc_plane_at(&p, x, row)] = EVC_MAX_SAMPLE;
+                }
+            HOLDS(evc_plane_at(&p, p.width, 0) == 0 && evc_plane_at(&p, 0, p.height) == 0);
+            HOLDS(evc_plane_at(&p, SIZE_MAX, 0) == 0 && evc_plane_at(&p, 0, SIZE_MAX) == 0);
+        }
+        for (size_t i = 0; i < sizeof refused / sizeof *refused; i++) {
+            const EvcPlaneLayout p = evc_plane_layout(chroma, refused[i][0], refused[i][1]), zeros = {0};
+            HOLDS(evc_pad(chroma, refused[i][0], refused[i][1], plane, LUMA) == EVC_BAD_PICTURE);
+            HOLDS(!memcmp(&p, &zeros, sizeof p) && evc_plane_at(&p, 0, 0) == 0);
+        }
+        const EvcPlaneLayout p = evc_plane_layout(chroma, EVC_MAX_SIDE, EVC_MAX_SIDE);
+        HOLDS(p.stride == (chroma ? 4160 : 8288) && p.rows == (chroma ? 4144 : 8288));
+    }
+}
+
+/* Maps are as long as the calls ask for, and a block's first unit is at evc_unit_at. */
+static void units(void) {
+    enum { W = 20, H = 12, UNITS = 15 };
+    static int16_t map[EVC_MOTION_LEN * UNITS];
+    static uint32_t words[UNITS];
+    HOLDS(evc_unit_count(W, H) == UNITS && evc_map_scu_len(W, H) == UNITS && evc_map_mv_len(W, H) == 4 * UNITS);
+    HOLDS(evc_camera_motion(W, H, map, evc_map_mv_len(W, H), words, evc_map_scu_len(W, H)).code == EVC_OK);
+    HOLDS(evc_camera_motion(W, H, map, evc_map_mv_len(W, H) - 1, words, UNITS).code == EVC_SHORT_BUFFER);
+    HOLDS(evc_camera_motion(W, H, map, 4 * UNITS, words, evc_map_scu_len(W, H) - 1).code == EVC_SHORT_BUFFER);
+    HOLDS(evc_unit_count(EVC_MAX_SIDE, EVC_MAX_SIDE) == 2032 * 2032);
+    HOLDS(evc_unit_count(W, 10) == 0 && evc_map_scu_len(UINT32_MAX - 3, H) == 0 && evc_map_mv_len(0, H) == 0);
+    for (uint32_t row = 0; row < H; row += 4)
+        for (uint32_t x = 0; x < W; x += 4) {
+            const EvcBlock block = {W, H, x, row, 4, 4};
+            int16_t *mv = map + EVC_MOTION_LEN * evc_unit_at(W, x + 3, row + 3);
+            mv[0] = 8, mv[1] = -16;
+            EvcDirect direct = evc_get_mv_dir(block, 4, 0, 8, 0, true, map, evc_map_mv_len(W, H));
+            HOLDS(direct.mv0.x == 4 && direct.mv0.y == -8);
+            mv[0] = mv[1] = 0;
+        }
+    HOLDS(evc_unit_at(W, W, 4) == 0 && evc_unit_at(W, 4, UINT32_MAX) == 0 && evc_unit_at(18, 4, 4) == 0);
+}
+
+/* A block of 8 by 4 between its eight neighbours: each flag comes from its own unit. */
+static void flags(void) {
+    const EvcBlock block = {16, 12, 4, 4, 8, 4};
+    const struct { uint32_t x, y; uint16_t flag, with; } of[] = {
+        {4, 0, EVC_AVAIL_UP, 0},     {0, 4, EVC_AVAIL_LE, 0},     {12, 4, EVC_AVAIL_RI, 0},
+        {0, 0, EVC_AVAIL_UP_LE, 0},  {12, 0, EVC_AVAIL_UP_RI, 0}, {0, 8, EVC_AVAIL_LO_LE, EVC_AVAIL_LE},
+        {8, 0, EVC_AVAIL_RI_UP, 0},  {12, 8, EVC_AVAIL_LO_RI, EVC_AVAIL_RI},
+    };
+    uint32_t words[12];
+    for (size_t i = 0; i < sizeof of / sizeof *of; i++) {
+        for (size_t k = 0; k < 12; k++) words[k] = EVC_SCU_CODED | EVC_SCU_INTRA;
+        words[evc_unit_at(16, of[i].x, of[i].y)] = EVC_SCU_CODED;
+        HOLDS(evc_get_avail_inter(block, words, 12).avail == (of[i].with ? 0 : of[i].flag));
+        if (of[i].with) {
+            words[evc_unit_at(16, of[i].x, 4)] = EVC_SCU_CODED;
+            HOLDS(evc_get_avail_inter(block, words, 12).avail == (of[i].flag | of[i].with));
+        }
+    }
+}
+
+/* A copied block has the samples of its place, in all three planes. */
+static void predicted(void) {
+    const uint32_t of[][4] = {{0, 0, 4, 4}, {4, 0, 4, 8}, {0, 4, 8, 4}, {0, 0, 8, 8}};
+    const EvcList list0 = {true, {0, 0}, 0}, unused = {false, {0, 0}, 0};
+    uint16_t *const planes[3] = {y0, u0, v0};
+    for (unsigned c = 0; c < 3; c++) {
+        const EvcPlaneLayout p = evc_plane_layout(c > 0, 8, 8);
+        for (size_t row = 0; row < p.height; row++)
+            for (size_t x = 0; x < p.width; x++)
+                planes[c][evc_plane_at(&p, x, row)] = (uint16_t)(100 * (c + 1) + 8 * row + x);
+    }
+    for (size_t i = 0; i < sizeof of / sizeof *of; i++) {
+        const EvcBlock b = {8, 8, of[i][0], of[i][1], of[i][2], of[i][3]};
+        HOLDS(evc_mc2(b, list0, PLANES0, unused, EMPTY, pred0, CU, pred1, CU) == EVC_OK);
+        for (unsigned c = 0; c < 3; c++) {
+            const EvcPlaneLayout p = evc_plane_layout(c > 0, 8, 8);
+            const uint32_t half = c > 0 ? 2 : 1;
+            for (size_t row = 0; row < b.h / half; row++)
+                for (size_t x = 0; x < b.w / half; x++)
+                    HOLDS(pred0[evc_cu_at(c, b.w, x, row)]
+                          == planes[c][evc_plane_at(&p, b.x / half + x, b.y / half + row)]);
+        }
+    }
+    HOLDS(evc_cu_at(0, 64, 63, 63) == EVC_CU_U - 1 && evc_cu_at(1, 64, 31, 31) == EVC_CU_V - 1);
+    HOLDS(evc_cu_at(2, 64, 31, 31) == EVC_CU_LEN - 1 && evc_cu_at(1, 4, 0, 0) == EVC_CU_U);
+    HOLDS(evc_cu_at(3, 64, 1, 1) == 0 && evc_cu_at(0, 12, 1, 1) == 0 && evc_cu_at(0, UINT32_MAX, 1, 1) == 0);
+    HOLDS(evc_cu_at(2, 8, 4, 0) == 0 && evc_cu_at(0, 8, 8, 0) == 0 && evc_cu_at(0, 64, 0, 64) == 0);
+    HOLDS(evc_cu_at(2, 64, 0, 32) == 0 && evc_cu_at(0, 64, 1, SIZE_MAX) == 0);
+}
+
+/* Each kind takes the fields that are its own: vector and count of list 0, of list 1, both, and both counts alone. */
+static void kinds(void) {
+    enum { SHAPES = 4 };
+    const EvcTraceRecord shapes[SHAPES] = {
+        {4, 4, 4, 4, 0, {1, 0}, {0, 0}, 2, 0}, {4, 4, 4, 4, 0, {0, 0}, {0, 3}, 0, 4},
+        {4, 4, 4, 4, 0, {1, 0}, {0, 3}, 2, 4}, {4, 4, 4, 4, 0, {0, 0}, {0, 0}, 2, 4},
+    };
+    const struct { uint8_t kind; bool takes[SHAPES]; } of[] = {
+        {EVC_TRACE_LIST0, {true, false, false, false}}, {EVC_TRACE_LIST1, {false, true, false, false}},
+        {EVC_TRACE_BOTH, {true, true, true, true}},     {EVC_TRACE_DIRECT, {false, false, false, true}},
+        {EVC_TRACE_DIRECT + 1, {false, false, false, false}},
+    };
+    uint8_t out[EVC_TRACE_RECORD_LEN];
+    for (size_t i = 0; i < sizeof of / sizeof *of; i++)
+        for (size_t k = 0; k < SHAPES; k++) {
+            EvcTraceRecord record = shapes[k];
+            record.kind = of[i].kind;
+            const uint32_t code = evc_trace_write_record(8, 8, record, out, sizeof out);
+            HOLDS(code == (of[i].takes[k] ? EVC_OK : EVC_BAD_RECORD));
+        }
+}
+
 int main(void) {
     EvcBlock b = {8, 8, 4, 4, 4, 4}, bad = {8, 8, 4, 4, 12, 4};
     EvcMv none = {0, 0};
+    const EvcPlaneLayout luma = evc_plane_layout(false, 8, 8), chroma = evc_plane_layout(true, 8, 8);
+
+    messages(), planes(), units(), flags(), predicted(), kinds();
 
     uint32_t words[4] = {0};
-    HOLDS(evc_get_avail_inter(b, words, 4).avail == 513);
-    for (int k = 0; k < 4; k++) words[k] = 0x80000000u;
-    HOLDS(evc_get_avail_inter(b, words, 4).avail == 547);
+    HOLDS(evc_get_avail_inter(b, words, 4).avail == (EVC_AVAIL_UP | EVC_AVAIL_RI_UP));
+    for (int k = 0; k < 4; k++) words[k] = EVC_SCU_CODED;
+    HOLDS(evc_get_avail_inter(b, words, 4).avail == (EVC_AVAIL_UP | EVC_AVAIL_LE | EVC_AVAIL_UP_LE | EVC_AVAIL_RI_UP));
     EvcAvail avail = evc_get_avail_inter(b, words, 3);
-    HOLDS(avail.code == 4 && avail.avail == 0);
+    HOLDS(avail.code == EVC_SHORT_BUFFER && avail.avail == 0);
 
     int16_t map[16] = {1, 2, 3, 4, 5, 6, 7, 8, 9, 10, 11, 12, 13, 14, 15, 16};
     EvcCandidates cand = {.collocated = {-7, -8}, .refi = {1, 1, 1, 1}}, before = cand;
-    HOLDS(evc_get_motion(b, 2, 0, map, 16, false, NULL, 0, &cand) == 3 && !memcmp(&cand, &before, sizeof cand));
-    HOLDS(evc_get_motion(b, 1, 1 << 6, map, 16, false, NULL, 0, &cand) == 7 && !memcmp(&cand, &before, sizeof cand));
-    HOLDS(evc_get_motion(b, 1, 3, map, 16, false, NULL, 0, &cand) == 0);
+    HOLDS(evc_get_motion(b, 2, 0, map, 16, false, NULL, 0, &cand) == EVC_BAD_LIST);
+    HOLDS(evc_get_motion(b, 1, EVC_AVAIL_UP_RI, map, 16, false, NULL, 0, &cand) == EVC_BAD_NEIGHBOUR);
+    HOLDS(!memcmp(&cand, &before, sizeof cand));
+    HOLDS(evc_get_motion(b, 1, EVC_AVAIL_UP | EVC_AVAIL_LE, map, 16, false, NULL, 0, &cand) == EVC_OK);
     HOLDS(cand.left.x == 11 && cand.left.y == 12 && cand.up.x == 7 && cand.up.y == 8);
     HOLDS(cand.up_right.x == 1 && cand.collocated.x == -7 && cand.refi[3] == 0);
 
     int16_t col[16] = {[12] = 7, [13] = -7};
     EvcDirect direct = evc_get_mv_dir(b, 4, 0, 8, 0, true, col, 16);
-    HOLDS(direct.code == 0 && direct.mv0.x == 3 && direct.mv0.y == -3 && direct.mv1.x == -3 && direct.mv1.y == 3);
-    HOLDS(evc_get_mv_dir(b, 4, 0, 32768, 0, true, col, 16).code == 5);
+    HOLDS(direct.code == EVC_OK && direct.mv0.x == 3 && direct.mv0.y == -3 && direct.mv1.x == -3 && direct.mv1.y == 3);
+    HOLDS(evc_get_mv_dir(b, 4, 0, EVC_MAX_POC, 0, true, col, 16).code == EVC_OK);
+    HOLDS(evc_get_mv_dir(b, 4, 0, EVC_MAX_POC + 1, 0, true, col, 16).code == EVC_BAD_POC);
 
     EvcBlock wide = {64, 64, 16, 0, 16, 16};
     HOLDS(evc_mv_clip(wide, (EvcMv){-320, 0}).mv.x == -320);
     HOLDS(evc_mv_clip(wide, (EvcMv){-321, 0}).mv.x == -320);
-    HOLDS(evc_mv_clip(bad, none).code == 2);
+    HOLDS(evc_mv_clip(bad, none).code == EVC_BAD_BLOCK);
 
     grey(y0, LUMA, 3), grey(u0, CHROMA, 3), grey(v0, CHROMA, 3);
     grey(y1, LUMA, 4), grey(u1, CHROMA, 4), grey(v1, CHROMA, 4);
-    y0[80 * 176 + 80] = 200; /* the picture's first sample */
-    HOLDS(evc_pad(false, 8, 8, y0, LUMA) == 0 && y0[0] == 200);
-    HOLDS(evc_pad(false, 8, 8, y0, LUMA - 1) == 4 && evc_pad(true, 10, 8, u0, CHROMA) == 1);
-    u0[43 * 96 + 51] = 1024; /* the last */
-    HOLDS(evc_pad(true, 8, 8, u0, CHROMA) == 6 && u0[0] == 3);
-    u0[43 * 96 + 51] = 3;
+    HOLDS(luma.len == LUMA && chroma.len == CHROMA);
+    y0[evc_plane_at(&luma, 0, 0)] = 200;
+    HOLDS(evc_pad(false, 8, 8, y0, LUMA) == EVC_OK && y0[0] == 200);
+    HOLDS(evc_pad(false, 8, 8, y0, LUMA - 1) == EVC_SHORT_BUFFER);
+    HOLDS(evc_pad(true, 10, 8, u0, CHROMA) == EVC_BAD_PICTURE);
+    u0[evc_plane_at(&chroma, 3, 3)] = 1024;
+    HOLDS(evc_pad(true, 8, 8, u0, CHROMA) == EVC_BAD_SAMPLE && u0[0] == 3);
+    u0[evc_plane_at(&chroma, 3, 3)] = 3;
 
     grey(pred0, CU, 9);
-    HOLDS(evc_mc_plane(false, 8, 8, none, none, 4, 4, y0, LUMA, pred0, 16) == 0);
+    HOLDS(evc_mc_plane(false, 8, 8, none, none, 4, 4, y0, LUMA, pred0, 16) == EVC_OK);
     HOLDS(pred0[0] == 200 && pred0[15] == 3 && pred0[16] == 9);
-    HOLDS(evc_mc_plane(false, 8, 8, none, none, 4, 4, y0, LUMA, pred0, 15) == 4);
+    HOLDS(evc_mc_plane(false, 8, 8, none, none, 4, 4, y0, LUMA, pred0, 15) == EVC_SHORT_BUFFER);
 
     EvcList list0 = {true, {5, 2}, 0}, list1 = {true, {5, 2}, 8}, unused = {false, {0, 0}, 0};
-    HOLDS(evc_mc2(b, list0, y0, LUMA, u0, CHROMA, v0, CHROMA, list1, y1, LUMA, u1, CHROMA, v1, CHROMA, pred0, CU, pred1, CU) == 0);
-    HOLDS(pred0[0] == 4 && pred1[5120] == 4 && pred0[16] == 9); /* the average of 3 and 4 */
+    HOLDS(evc_mc2(b, list0, PLANES0, list1, PLANES1, pred0, CU, pred1, CU) == EVC_OK);
+    HOLDS(pred0[0] == 4 && pred1[EVC_CU_V] == 4 && pred0[16] == 9); /* the average of 3 and 4 */
     memcpy(kept, pred0, sizeof kept);
-    HOLDS(evc_mc2(b, unused, NULL, 0, NULL, 0, NULL, 0, unused, NULL, 0, NULL, 0, NULL, 0, pred0, CU, pred1, CU) == 3);
-    HOLDS(evc_mc2(b, list0, y0, LUMA, u0, CHROMA, v0, CHROMA - 1, unused, NULL, 0, NULL, 0, NULL, 0, pred0, CU, pred1, CU) == 4);
+    HOLDS(evc_mc2(b, unused, EMPTY, unused, EMPTY, pred0, CU, pred1, CU) == EVC_BAD_LIST);
+    uint32_t code = evc_mc2(b, list0, y0, LUMA, u0, CHROMA, v0, CHROMA - 1, unused, EMPTY, pred0, CU, pred1, CU);
+    HOLDS(code == EVC_SHORT_BUFFER);
+    HOLDS(evc_mc2(b, list0, PLANES0, unused, EMPTY, pred0, CU - 1, pred1, CU) == EVC_SHORT_BUFFER);
+    HOLDS(evc_mc2(b, list0, PLANES0, unused, EMPTY, pred0, CU, pred1, CU - 1) == EVC_SHORT_BUFFER);
     HOLDS(!memcmp(kept, pred0, sizeof kept));
-    HOLDS(evc_mc2(b, unused, NULL, 0, NULL, 0, NULL, 0, list1, y1, LUMA, u1, CHROMA, v1, CHROMA, pred0, CU, pred1, CU) == 0);
-    HOLDS(pred0[4096] == 4);
+    HOLDS(evc_mc2(b, unused, EMPTY, list1, PLANES1, pred0, CU, pred1, CU) == EVC_OK);
+    HOLDS(pred0[EVC_CU_U] == 4);
 
     /* A trace of two records: list 0 as above, and direct in the upper left. */
-    uint8_t trace[13 + 22 + 22 + 1];
-    uint8_t want[13 + 22] = {'I', 'P', 'T', 1, 0, 8, 0, 8, 0, 4, 0, 2, 1, 4, 0, 4, 0, 4, 0, 4, 0, 0, 251, 255, 2};
-    EvcTraceRecord from0 = {4, 4, 4, 4, 0, {-5, 2}, {0, 0}, 0, 0}, direct8 = {0, 0, 4, 4, 3, {0, 0}, {0, 0}, 0, 8}, above = from0;
-    above.kind = 4;
+    enum { HEADER = EVC_TRACE_HEADER_LEN, RECORD = EVC_TRACE_RECORD_LEN, TRACE = HEADER + 2 * RECORD };
+    uint8_t trace[TRACE + 1], *first = trace + HEADER, *second = first + RECORD;
+    uint8_t want[HEADER + RECORD] = {'I', 'P', 'T', 1, 0, 8, 0, 8, 0, 4, 0, 2, 1,
+                                     4, 0, 4, 0, 4, 0, 4, 0, EVC_TRACE_LIST0, 251, 255, 2};
+    EvcTraceRecord from0 = {4, 4, 4, 4, EVC_TRACE_LIST0, {-5, 2}, {0, 0}, 0, 0}, above = from0;
+    EvcTraceRecord direct8 = {0, 0, 4, 4, EVC_TRACE_DIRECT, {0, 0}, {0, 0}, 0, 8};
+    above.kind = EVC_TRACE_DIRECT + 1;
     memset(trace, 9, sizeof trace);
-    HOLDS(evc_trace_write_header(10, 8, 4, 258, trace, 12) == 1 && evc_trace_write_header(8, 8, 4, 258, trace, 12) == 4 && trace[0] == 9);
-    HOLDS(evc_trace_write_header(8, 8, 4, 258, trace, 13) == 0);
-    HOLDS(evc_trace_write_record(8, 10, above, trace + 13, 21) == 1 && evc_trace_write_record(8, 8, above, trace + 13, 21) == 4);
-    HOLDS(evc_trace_write_record(8, 8, above, trace + 13, 22) == 12 && trace[13] == 9);
-    HOLDS(evc_trace_write_record(8, 8, from0, trace + 13, 22) == 0);
-    HOLDS(!memcmp(trace, want, sizeof want) && trace[35] == 9);
-    HOLDS(evc_trace_write_header(8, 8, 4, 0, trace, 13) == 0 && evc_trace_write_record(8, 8, direct8, trace + 35, 22) == 0 && trace[57] == 9);
+    HOLDS(evc_trace_write_header(10, 8, 4, 258, trace, HEADER - 1) == EVC_BAD_PICTURE);
+    HOLDS(evc_trace_write_header(8, 8, 4, 258, trace, HEADER - 1) == EVC_SHORT_BUFFER && trace[0] == 9);
+    HOLDS(evc_trace_write_header(8, 8, 4, 258, trace, HEADER) == EVC_OK);
+    HOLDS(evc_trace_write_record(8, 10, above, first, RECORD - 1) == EVC_BAD_PICTURE);
+    HOLDS(evc_trace_write_record(8, 8, above, first, RECORD - 1) == EVC_SHORT_BUFFER);
+    HOLDS(evc_trace_write_record(8, 8, above, first, RECORD) == EVC_BAD_RECORD && *first == 9);
+    HOLDS(evc_trace_write_record(8, 8, from0, first, RECORD) == EVC_OK);
+    HOLDS(!memcmp(trace, want, sizeof want) && *second == 9);
+    HOLDS(evc_trace_write_header(8, 8, 4, 0, trace, HEADER) == EVC_OK);
+    HOLDS(evc_trace_write_record(8, 8, direct8, second, RECORD) == EVC_OK && trace[TRACE] == 9);
 
     grey(y, LUMA, 9), grey(u, CHROMA, 9), grey(v, CHROMA, 9);
 #define REPLAY(trace_len, y0_len, v_len) \
-    evc_trace_replay(trace, trace_len, y0, y0_len, u0, CHROMA, v0, CHROMA, y1, LUMA, u1, CHROMA, v1, CHROMA, true, col, 16, y, LUMA, u, CHROMA, v, v_len)
-    EvcReplay r = REPLAY(12, LUMA - 1, CHROMA);
-    HOLDS(r.code == 11 && r.index == 0);
-    r = REPLAY(57, LUMA - 1, CHROMA);
-    HOLDS(r.code == 4 && r.index == 0);
-    r = REPLAY(57, LUMA, CHROMA - 1);
-    HOLDS(r.code == 4 && r.index == 0);
-    trace[3] = 2, r = REPLAY(57, LUMA, CHROMA), trace[3] = 1;
-    HOLDS(r.code == 10 && r.index == 0 && y[84 * 176 + 84] == 9);
-    r = REPLAY(56, LUMA, CHROMA);
-    HOLDS(r.code == 11 && r.index == 1); /* the first record's block is there, the second's is not */
-    HOLDS(y[84 * 176 + 84] == 3 && u[42 * 96 + 50] == 3 && v[43 * 96 + 51] == 3 && y[80 * 176 + 80] == 9);
-    r = REPLAY(57, LUMA, CHROMA);
-    HOLDS(r.code == 0 && r.index == 2);
-    HOLDS(y[83 * 176 + 83] == 4 && u[40 * 96 + 48] == 4); /* the average of 3 and 4 */
-    HOLDS(y[79 * 176 + 80] == 9 && y[80 * 176 + 79] == 9 && y[88 * 176 + 87] == 9 && y[80 * 176 + 84] == 9); /* the border, and outside the blocks */
-    r = REPLAY(58, LUMA, CHROMA);
-    HOLDS(r.code == 11 && r.index == 2); /* a trace has no excess */
+    evc_trace_replay(trace, trace_len, y0, y0_len, u0, CHROMA, v0, CHROMA, PLANES1, true, col, 16, \
+                     y, LUMA, u, CHROMA, v, v_len)
+    EvcReplay r = REPLAY(HEADER - 1, LUMA - 1, CHROMA);
+    HOLDS(r.code == EVC_INCOMPLETE && r.index == 0);
+    r = REPLAY(TRACE, LUMA - 1, CHROMA);
+    HOLDS(r.code == EVC_SHORT_BUFFER && r.index == 0);
+    r = REPLAY(TRACE, LUMA, CHROMA - 1);
+    HOLDS(r.code == EVC_SHORT_BUFFER && r.index == 0);
+    trace[3] = 2, r = REPLAY(TRACE, LUMA, CHROMA), trace[3] = 1;
+    HOLDS(r.code == EVC_BAD_MARK && r.index == 0 && y[evc_plane_at(&luma, 4, 4)] == 9);
+    r = REPLAY(TRACE - 1, LUMA, CHROMA);
+    HOLDS(r.code == EVC_INCOMPLETE && r.index == 1); /* the first record's block is there, the second's is not */
+    HOLDS(y[evc_plane_at(&luma, 4, 4)] == 3 && y[evc_plane_at(&luma, 0, 0)] == 9);
+    HOLDS(u[evc_plane_at(&chroma, 2, 2)] == 3 && v[evc_plane_at(&chroma, 3, 3)] == 3);
+    r = REPLAY(TRACE, LUMA, CHROMA);
+    HOLDS(r.code == EVC_OK && r.index == 2);
+    /* The average of 3 and 4. */
+    HOLDS(y[evc_plane_at(&luma, 3, 3)] == 4 && u[evc_plane_at(&chroma, 0, 0)] == 4);
+    /* The border, and outside the blocks. */
+    HOLDS(y[79 * 176 + 80] == 9 && y[80 * 176 + 79] == 9 && y[88 * 176 + 87] == 9 && y[evc_plane_at(&luma, 4, 0)] == 9);
+    r = REPLAY(TRACE + 1, LUMA, CHROMA);
+    HOLDS(r.code == EVC_INCOMPLETE && r.index == 2); /* a trace has no excess */
 
     /* Camera movement of two units; list 1 is not in it. */
-    int16_t panned[8] = {6, 0, 1, 2, 7, 0, 3, 4}, apart[8] = {4, -9, 1, 2, -4, 9, 3, 4}, tilted[8] = {1, -1, 1, 2, -1, -2, 3, 4};
-    uint32_t intra[2] = {0x80008000u, 0x80008000u}, second[2] = {0x00000000u, 0xffff7fffu};
-    HOLDS(reads(evc_camera_motion(8, 4, panned, 8, words, 2), 0, 2, 1.625, 0.0));
-    HOLDS(reads(evc_camera_motion(8, 4, apart, 8, words, 2), 0, 1, 0.0, 0.0));
-    HOLDS(reads(evc_camera_motion(4, 8, tilted, 8, words, 2), 0, 2, 0.0, -0.375));
-    HOLDS(reads(evc_camera_motion(8, 4, panned, 8, intra, 2), 0, 0, 0.0, 0.0));
-    HOLDS(reads(evc_camera_motion(8, 4, panned, 8, second, 2), 0, 2, 1.75, 0.0)); /* the first is not coded */
-    HOLDS(reads(evc_camera_motion(8, 6, panned, 7, words, 1), 1, 0, 0.0, 0.0));
-    HOLDS(reads(evc_camera_motion(8, 4, panned, 7, words, 2), 4, 0, 0.0, 0.0));
-    HOLDS(reads(evc_camera_motion(8, 4, panned, 8, words, 1), 4, 0, 0.0, 0.0));
-    HOLDS(reads(evc_camera_motion(4, 4, panned, 8, words, 2), 0, 2, 1.5, 0.0)); /* longer buffers */
-    HOLDS(reads(evc_camera_motion(4, 4, NULL, 0, NULL, 0), 4, 0, 0.0, 0.0));
+    int16_t panned[8] = {6, 0, 1, 2, 7, 0, 3, 4}, apart[8] = {4, -9, 1, 2, -4, 9, 3, 4};
+    int16_t tilted[8] = {1, -1, 1, 2, -1, -2, 3, 4};
+    uint32_t intra[2] = {EVC_SCU_CODED | EVC_SCU_INTRA, EVC_SCU_CODED | EVC_SCU_INTRA};
+    uint32_t one[2] = {0x00000000u, 0xffff7fffu}; /* the first is not coded */
+    HOLDS(reads(evc_camera_motion(8, 4, panned, 8, words, 2), EVC_OK, EVC_CAMERA_MOVING, 1.625, 0.0));
+    HOLDS(reads(evc_camera_motion(8, 4, apart, 8, words, 2), EVC_OK, EVC_CAMERA_STILL, 0.0, 0.0));
+    HOLDS(reads(evc_camera_motion(4, 8, tilted, 8, words, 2), EVC_OK, EVC_CAMERA_MOVING, 0.0, -0.375));
+    HOLDS(reads(evc_camera_motion(8, 4, panned, 8, intra, 2), EVC_OK, EVC_CAMERA_NONE, 0.0, 0.0));
+    HOLDS(reads(evc_camera_motion(8, 4, panned, 8, one, 2), EVC_OK, EVC_CAMERA_MOVING, 1.75, 0.0));
+    HOLDS(reads(evc_camera_motion(8, 6, panned, 7, words, 1), EVC_BAD_PICTURE, EVC_CAMERA_NONE, 0.0, 0.0));
+    HOLDS(reads(evc_camera_motion(8, 4, panned, 7, words, 2), EVC_SHORT_BUFFER, EVC_CAMERA_NONE, 0.0, 0.0));
+    HOLDS(reads(evc_camera_motion(8, 4, panned, 8, words, 1), EVC_SHORT_BUFFER, EVC_CAMERA_NONE, 0.0, 0.0));
+    /* Longer buffers, and none. */
+    HOLDS(reads(evc_camera_motion(4, 4, panned, 8, words, 2), EVC_OK, EVC_CAMERA_MOVING, 1.5, 0.0));
+    HOLDS(reads(evc_camera_motion(4, 4, NULL, 0, NULL, 0), EVC_SHORT_BUFFER, EVC_CAMERA_NONE, 0.0, 0.0));
 
     puts(failed ? "the archive does not hold" : "the archive holds from C");
     return failed;
