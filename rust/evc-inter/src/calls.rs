@@ -206,10 +206,9 @@ pub fn evc_mc_plane(
 ///
 /// let mut pictures = [Picture::new(16, 8)?, Picture::new(16, 8)?];
 /// for (picture, grey) in pictures.iter_mut().zip([300, 401]) {
-///     for plane in &mut picture.planes {
-///         plane.rows_mut().for_each(|row| row.fill(grey));
+///     for plane in picture.samples_mut() {
+///         plane.fill(grey); // with its border
 ///     }
-///     picture.pad()?;
 /// }
 /// let block = EvcBlock { pic_w: 16, pic_h: 8, x: 8, y: 0, w: 8, h: 8 };
 /// let list0 = EvcList { used: true, mv: EvcMv { x: -5, y: 2 }, poc: 0 };

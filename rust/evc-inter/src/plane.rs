@@ -1,10 +1,14 @@
-//! Planes and pictures that the calls take.
+//! Planes that the calls take.
 
 use crate::{evc_pad, Refusal};
 
-/// Sides of a picture that every call takes.
-fn is_side(side: u32) -> bool {
-    side % 4 == 0 && (4..=8128).contains(&side)
+/// Refuses 1 for a picture that no call takes.
+pub(crate) fn check_sides(pic_w: u32, pic_h: u32) -> Result<(), Refusal> {
+    let is_side = |side: u32| side % 4 == 0 && (4..=8128).contains(&side);
+    match is_side(pic_w) && is_side(pic_h) {
+        true => Ok(()),
+        false => Err(Refusal::Picture),
+    }
 }
 
 /// How a plane of a picture lies in its buffer, with the names of revc's `PlaneConfig`.
@@ -42,9 +46,7 @@ pub struct PlaneConfig {
 impl PlaneConfig {
     /// The luma plane, or either chroma plane, of a picture of `pic_w` by `pic_h`. Refuses 1.
     pub fn new(chroma: bool, pic_w: u32, pic_h: u32) -> Result<PlaneConfig, Refusal> {
-        if !is_side(pic_w) || !is_side(pic_h) {
-            return Err(Refusal::Picture);
-        }
+        check_sides(pic_w, pic_h)?;
         let (pad, half) = if chroma { (40, 2) } else { (80, 1) };
         let (width, height) = (pic_w as usize / half, pic_h as usize / half);
         // "The left origin is the pad rounded up to a multiple of 16", the stride likewise.
@@ -112,7 +114,23 @@ impl Plane {
         })
     }
 
+    /// Whether it is the luma plane, or a chroma plane, of a picture of these sides.
+    pub(crate) fn is_of(&self, chroma: bool, sides: (u32, u32)) -> bool {
+        self.chroma == chroma && self.sides() == sides
+    }
+
+    /// Width and height of the whole picture, in luma samples.
+    pub(crate) fn sides(&self) -> (u32, u32) {
+        (self.pic_w, self.pic_h)
+    }
+
     /// How the plane lies in its buffer.
+    ///
+    /// ```
+    /// let plane = evc_inter::Plane::new(true, 16, 8)?;
+    /// assert_eq!((plane.cfg().width, plane.cfg().height), (8, 4));
+    /// # Ok::<(), evc_inter::Refusal>(())
+    /// ```
     pub fn cfg(&self) -> &PlaneConfig {
         &self.cfg
     }
@@ -143,6 +161,13 @@ impl Plane {
     }
 
     /// The picture's rows from the top, to be set.
+    ///
+    /// ```
+    /// let mut plane = evc_inter::Plane::new(false, 4, 4)?;
+    /// plane.rows_mut().zip(1..).for_each(|(row, grey)| row.fill(grey));
+    /// assert!(plane.rows().eq([[1; 4], [2; 4], [3; 4], [4; 4]]));
+    /// # Ok::<(), evc_inter::Refusal>(())
+    /// ```
     pub fn rows_mut(&mut self) -> impl Iterator<Item = &mut [u16]> {
         let PlaneConfig {
             width,
@@ -169,56 +194,15 @@ impl Plane {
     }
 
     /// The whole buffer with its border, to be lent to a call that writes to it.
+    ///
+    /// ```
+    /// let mut plane = evc_inter::Plane::new(false, 4, 4)?;
+    /// plane.samples_mut().fill(512);
+    /// assert_eq!(plane.row(3), [512; 4]);
+    /// # Ok::<(), evc_inter::Refusal>(())
+    /// ```
     pub fn samples_mut(&mut self) -> &mut [u16] {
         &mut self.data
-    }
-}
-
-/// The three planes of a picture: Y, U, V.
-///
-/// ```
-/// use evc_inter::{Picture, Refusal};
-///
-/// let mut picture = Picture::new(16, 8)?;
-/// picture.planes[0].row_mut(7)[15] = 1024;
-/// assert_eq!(picture.pad(), Err(Refusal::Sample));
-/// picture.planes[0].row_mut(7)[15] = 1023;
-/// picture.pad()?;
-/// # Ok::<(), Refusal>(())
-/// ```
-#[derive(Clone, Debug, PartialEq, Eq)]
-pub struct Picture {
-    /// Y, U, V.
-    pub planes: [Plane; 3],
-}
-
-impl Picture {
-    /// A picture of zeros. Refuses 1.
-    pub fn new(pic_w: u32, pic_h: u32) -> Result<Picture, Refusal> {
-        let [y, u, v] = [false, true, true].map(|chroma| Plane::new(chroma, pic_w, pic_h));
-        Ok(Picture {
-            planes: [y?, u?, v?],
-        })
-    }
-
-    /// Width and height in luma samples.
-    pub fn sides(&self) -> (u32, u32) {
-        (self.planes[0].pic_w, self.planes[0].pic_h)
-    }
-
-    /// Fills the borders of the three planes. Refuses 6; planes before the refused one are padded.
-    pub fn pad(&mut self) -> Result<(), Refusal> {
-        self.planes.iter_mut().try_for_each(Plane::pad)
-    }
-
-    /// The three planes, to be lent to [`evc_mc2`](crate::evc_mc2).
-    pub fn samples(&self) -> [&[u16]; 3] {
-        self.planes.each_ref().map(Plane::samples)
-    }
-
-    /// The three planes, to be lent to [`evc_trace_replay`](crate::evc_trace_replay) as its target.
-    pub fn samples_mut(&mut self) -> [&mut [u16]; 3] {
-        self.planes.each_mut().map(Plane::samples_mut)
     }
 }
 

@@ -17,6 +17,9 @@ use std::fmt;
 /// assert_eq!(refusal.number(), 1);
 /// assert!(refusal.to_string().starts_with("refused (1): picture width or height"));
 /// ```
+///
+/// Later requests may add numbers, so a `match` needs an arm for those.
+#[non_exhaustive]
 #[derive(Clone, Copy, Debug, PartialEq, Eq, Hash)]
 #[repr(u32)]
 pub enum Refusal {
@@ -44,7 +47,16 @@ pub enum Refusal {
 
 impl Refusal {
     /// Every refusal, in rising number.
-    pub const ALL: [Refusal; 10] = [
+    ///
+    /// ```
+    /// use evc_inter::Refusal;
+    ///
+    /// for refusal in Refusal::ALL {
+    ///     println!("{}: {refusal}", refusal.number());
+    /// }
+    /// assert!(Refusal::ALL.contains(&Refusal::Sample));
+    /// ```
+    pub const ALL: &'static [Refusal] = &[
         Refusal::Picture,
         Refusal::Block,
         Refusal::List,
@@ -71,13 +83,47 @@ impl Refusal {
         if code == 0 {
             return Ok(());
         }
-        let mut all = Refusal::ALL.into_iter();
-        match all.find(|refusal| refusal.number() == code) {
-            Some(refusal) => Err(refusal),
-            None => unreachable!("the contracts allow no {code}"),
+        match Refusal::try_from(code) {
+            Ok(refusal) => Err(refusal),
+            Err(UnknownRefusal(code)) => unreachable!("the contracts allow no {code}"),
         }
     }
 }
+
+/// A number that a C call returned, or that a note has, as a refusal. 0 is no refusal: it is done.
+///
+/// ```
+/// use evc_inter::{Refusal, UnknownRefusal};
+///
+/// assert_eq!(Refusal::try_from(6), Ok(Refusal::Sample));
+/// assert_eq!(Refusal::try_from(0), Err(UnknownRefusal(0)));
+/// ```
+impl TryFrom<u32> for Refusal {
+    type Error = UnknownRefusal;
+
+    fn try_from(number: u32) -> Result<Refusal, UnknownRefusal> {
+        let mut all = Refusal::ALL.iter().copied();
+        all.find(|refusal| refusal.number() == number)
+            .ok_or(UnknownRefusal(number))
+    }
+}
+
+/// A number that no refusal has.
+///
+/// ```
+/// let error = evc_inter::Refusal::try_from(8).unwrap_err();
+/// assert_eq!(error.to_string(), "no refusal has the number 8");
+/// ```
+#[derive(Clone, Copy, Debug, PartialEq, Eq, Hash)]
+pub struct UnknownRefusal(pub u32);
+
+impl fmt::Display for UnknownRefusal {
+    fn fmt(&self, f: &mut fmt::Formatter<'_>) -> fmt::Result {
+        write!(f, "no refusal has the number {}", self.0)
+    }
+}
+
+impl std::error::Error for UnknownRefusal {}
 
 impl fmt::Display for Refusal {
     fn fmt(&self, f: &mut fmt::Formatter<'_>) -> fmt::Result {
@@ -133,12 +179,22 @@ impl std::error::Error for Refusal {}
 fn numbers() {
     assert_eq!(Refusal::check(0), Ok(()));
     let numbers = [1, 2, 3, 4, 5, 6, 7, 10, 11, 12];
-    assert_eq!(Refusal::ALL.map(Refusal::number), numbers);
-    for (refusal, number) in Refusal::ALL.into_iter().zip(numbers) {
+    assert_eq!(Refusal::ALL.len(), numbers.len());
+    for (&refusal, number) in Refusal::ALL.iter().zip(numbers) {
+        assert_eq!(refusal.number(), number);
         assert_eq!(Refusal::check(number), Err(refusal));
         assert!(refusal
             .to_string()
             .starts_with(&format!("refused ({number}): ")));
         assert_eq!(refusal.to_string().lines().count(), 1);
     }
+    for number in [0, 8, 9, 13, u32::MAX] {
+        assert_eq!(Refusal::try_from(number), Err(UnknownRefusal(number)));
+    }
+}
+
+#[test]
+#[should_panic(expected = "the contracts allow no 8")]
+fn no_other_number() {
+    let _ = Refusal::check(8);
 }

@@ -1,15 +1,29 @@
 //! Traces: what a decoder asked for while it predicted a picture, kept and replayed.
 
 use crate::ffi;
-use crate::{evc_trace_replay, evc_trace_write_header, evc_trace_write_record};
-use crate::{EvcBlock, EvcList, EvcMv, EvcTraceRecord, Picture, Refusal};
+use crate::{evc_get_mv_dir, evc_trace_replay, evc_trace_write_header, evc_trace_write_record};
+use crate::{EvcBlock, EvcList, EvcMv, EvcTraceRecord};
+use crate::{PaddedPicture, Picture, Refusal, TraceHeader, TraceReader};
 use std::fmt;
 use std::io;
 
 /// Bytes of a trace's header.
+///
+/// ```
+/// let trace = evc_inter::TraceWriter::new(Vec::new(), 416, 240, 4, 0)?.into_inner();
+/// assert_eq!(trace.len(), evc_inter::TRACE_HEADER_LEN);
+/// # Ok::<(), std::io::Error>(())
+/// ```
 pub const TRACE_HEADER_LEN: usize = 13;
 
 /// Bytes of a record behind it.
+///
+/// ```
+/// use evc_inter::{TRACE_HEADER_LEN, TRACE_RECORD_LEN};
+///
+/// let place_of_record = |n| TRACE_HEADER_LEN + n * TRACE_RECORD_LEN;
+/// assert_eq!(place_of_record(1), 35);
+/// ```
 pub const TRACE_RECORD_LEN: usize = 22;
 
 /// A block of a trace and where its prediction comes from. Every one can be written: what an
@@ -38,6 +52,19 @@ pub struct TraceRecord {
 }
 
 /// The four kinds of a record, each with the fields that it has.
+///
+/// ```
+/// use evc_inter::{EvcMv, TraceMotion};
+///
+/// /// How many lists a record uses.
+/// fn lists(motion: &TraceMotion) -> u32 {
+///     match motion {
+///         TraceMotion::List0 { .. } | TraceMotion::List1 { .. } => 1,
+///         TraceMotion::Both { .. } | TraceMotion::Direct { .. } => 2,
+///     }
+/// }
+/// assert_eq!(lists(&TraceMotion::List0 { mv: EvcMv { x: 5, y: -2 }, poc: 8 }), 1);
+/// ```
 #[derive(Clone, Copy, Debug, PartialEq, Eq, Hash)]
 pub enum TraceMotion {
     /// Kind 0: list 0 alone.
@@ -140,6 +167,71 @@ impl TraceRecord {
         })
     }
 
+    /// The block, in the picture of the trace's header.
+    ///
+    /// ```
+    /// use evc_inter::{EvcBlock, Refusal, TraceHeader, TraceRecord};
+    ///
+    /// let header = TraceHeader { pic_w: 64, pic_h: 32, poc: 4, list_poc0: 0 };
+    /// let block = EvcBlock { pic_w: 64, pic_h: 32, x: 16, y: 8, w: 8, h: 4 };
+    /// assert_eq!(TraceRecord::direct(block, 0, 8)?.block(&header), block);
+    /// # Ok::<(), Refusal>(())
+    /// ```
+    pub fn block(&self, header: &TraceHeader) -> EvcBlock {
+        let TraceHeader { pic_w, pic_h, .. } = *header;
+        let [x, y, w, h] = [self.x, self.y, self.w, self.h].map(u32::from);
+        EvcBlock {
+            pic_w,
+            pic_h,
+            x,
+            y,
+            w,
+            h,
+        }
+    }
+
+    /// The lists, as [`evc_mc2`](crate::evc_mc2) gets them. Those of a direct record have the vectors
+    /// that [`evc_get_mv_dir`] gives, which refuses 1, 2, 4, 5; no other record is refused.
+    ///
+    /// `col_mv` is the motion map of reference 1, or `None` if it has none.
+    ///
+    /// ```
+    /// use evc_inter::{EvcBlock, EvcMv, Refusal, TraceHeader, TraceRecord};
+    ///
+    /// let header = TraceHeader { pic_w: 4, pic_h: 4, poc: 4, list_poc0: 0 };
+    /// let block = EvcBlock { pic_w: 4, pic_h: 4, x: 0, y: 0, w: 4, h: 4 };
+    /// let direct = TraceRecord::direct(block, 0, 8)?;
+    /// let lists = direct.lists(&header, Some(&[7, -7, 0, 0]))?;
+    /// assert_eq!(lists.map(|list| list.mv), [EvcMv { x: 3, y: -3 }, EvcMv { x: -3, y: 3 }]);
+    /// assert_eq!(lists.map(|list| (list.used, list.poc)), [(true, 0), (true, 8)]);
+    /// assert_eq!(direct.lists(&header, Some(&[])), Err(Refusal::Buffer));
+    /// # Ok::<(), Refusal>(())
+    /// ```
+    pub fn lists(
+        &self,
+        header: &TraceHeader,
+        col_mv: Option<&[i16]>,
+    ) -> Result<[EvcList; 2], Refusal> {
+        let list = |mv, poc: u16| EvcList {
+            used: true,
+            mv,
+            poc: poc.into(),
+        };
+        let none = EvcList::default();
+        Ok(match self.motion {
+            TraceMotion::List0 { mv, poc } => [list(mv, poc), none],
+            TraceMotion::List1 { mv, poc } => [none, list(mv, poc)],
+            TraceMotion::Both { mv, poc } => [list(mv[0], poc[0]), list(mv[1], poc[1])],
+            TraceMotion::Direct { poc } => {
+                let counts = [header.poc, poc[0], poc[1], header.list_poc0];
+                let [current, poc0, poc1, list_poc0] = counts.map(u32::from);
+                let block = self.block(header);
+                let mv = evc_get_mv_dir(block, current, poc0, poc1, list_poc0, col_mv)?;
+                [list(mv[0], poc[0]), list(mv[1], poc[1])]
+            }
+        })
+    }
+
     /// The block's refusal comes first, as in the calls.
     fn of(
         block: EvcBlock,
@@ -177,6 +269,48 @@ impl From<TraceRecord> for EvcTraceRecord {
             mv1,
             poc0,
             poc1,
+        }
+    }
+}
+
+/// Refuses 12 where [`evc_trace_write_record`] does: a kind above 3, or a nonzero field that its kind
+/// does not have.
+///
+/// ```
+/// use evc_inter::{EvcTraceRecord, Refusal, TraceMotion, TraceRecord};
+///
+/// let fields = EvcTraceRecord { x: 16, w: 8, h: 4, kind: 3, poc1: 8, ..Default::default() };
+/// let record = TraceRecord::try_from(fields)?;
+/// assert_eq!(record.motion, TraceMotion::Direct { poc: [0, 8] });
+/// let list0 = EvcTraceRecord { kind: 0, ..fields }; // which has no count of list 1
+/// assert_eq!(TraceRecord::try_from(list0), Err(Refusal::Record));
+/// # Ok::<(), Refusal>(())
+/// ```
+impl TryFrom<EvcTraceRecord> for TraceRecord {
+    type Error = Refusal;
+
+    fn try_from(fields: EvcTraceRecord) -> Result<TraceRecord, Refusal> {
+        let EvcTraceRecord { x, y, w, h, .. } = fields;
+        let mv = [fields.mv0, fields.mv1];
+        let poc = [fields.poc0, fields.poc1];
+        let motion = match fields.kind {
+            0 => TraceMotion::List0 {
+                mv: mv[0],
+                poc: poc[0],
+            },
+            1 => TraceMotion::List1 {
+                mv: mv[1],
+                poc: poc[1],
+            },
+            2 => TraceMotion::Both { mv, poc },
+            3 => TraceMotion::Direct { poc },
+            _ => return Err(Refusal::Record),
+        };
+        let record = TraceRecord { x, y, w, h, motion };
+        // A field that the kind does not have comes back as zero.
+        match EvcTraceRecord::from(record) == fields {
+            true => Ok(record),
+            false => Err(Refusal::Record),
         }
     }
 }
@@ -284,6 +418,18 @@ impl<W> TraceWriter<W> {
 /// blocks before it.
 ///
 /// It reads as a line for the item's note; [`result`](Replay::result) is for `?`.
+///
+/// ```
+/// use evc_inter::{replay, Picture, TraceWriter};
+///
+/// let reference = Picture::new(16, 8)?.pad()?;
+/// let mut target = Picture::new(16, 8)?;
+/// let trace = TraceWriter::new(Vec::new(), 16, 8, 4, 0)?.into_inner();
+/// let replayed = replay(&trace, [&reference; 2], None, &mut target);
+/// assert_eq!((replayed.finished, replayed.refusal), (0, None));
+/// assert_eq!(replayed.to_string(), "0 records finished");
+/// # Ok::<(), std::io::Error>(())
+/// ```
 #[must_use]
 #[non_exhaustive]
 #[derive(Clone, Copy, Debug, PartialEq, Eq)]
@@ -317,7 +463,7 @@ impl Replay {
     /// ```
     /// use evc_inter::{replay, Picture, Refusal, TraceWriter};
     ///
-    /// let reference = Picture::new(64, 32)?;
+    /// let reference = Picture::new(64, 32)?.pad()?;
     /// let mut target = Picture::new(64, 32)?;
     /// let mut trace = TraceWriter::new(Vec::new(), 64, 32, 4, 0)?.into_inner();
     /// trace[0] = b'J';
@@ -352,6 +498,19 @@ impl fmt::Display for Replay {
 }
 
 /// Where and why a replay stopped.
+///
+/// ```
+/// use evc_inter::{replay, Picture, Refusal, TraceWriter};
+///
+/// let reference = Picture::new(16, 8)?.pad()?;
+/// let mut target = Picture::new(16, 8)?;
+/// let mut trace = TraceWriter::new(Vec::new(), 16, 8, 4, 0)?.into_inner();
+/// trace.push(0); // a record that is cut off
+/// let error = replay(&trace, [&reference; 2], None, &mut target).result().unwrap_err();
+/// assert_eq!((error.record, error.refusal), (Some(0), Refusal::Incomplete));
+/// assert!(error.to_string().starts_with("record 0: refused (11): "));
+/// # Ok::<(), std::io::Error>(())
+/// ```
 #[non_exhaustive]
 #[derive(Clone, Copy, Debug, PartialEq, Eq)]
 pub struct ReplayError {
@@ -374,8 +533,8 @@ impl std::error::Error for ReplayError {}
 
 /// Replays a trace: [`evc_trace_replay`] over pictures.
 ///
-/// The references are padded, those of the trace's counts; `col_mv` is the motion map of the second,
-/// or `None` if it has none. The target's borders stay as they are. A picture of another size than
+/// The references are those of the trace's counts; `col_mv` is the motion map of the second, or `None`
+/// if it has none. The target's borders stay as they are. A picture of another size than
 /// the header's is refused with 4, also a larger one, whose rows do not lie where the header says.
 ///
 /// ```
@@ -385,7 +544,7 @@ impl std::error::Error for ReplayError {}
 /// for plane in &mut reference.planes {
 ///     plane.rows_mut().for_each(|row| row.fill(300));
 /// }
-/// reference.pad()?;
+/// let reference = reference.pad()?;
 /// let mut trace = TraceWriter::new(Vec::new(), 16, 8, 4, 0)?;
 /// let block = EvcBlock { pic_w: 16, pic_h: 8, x: 0, y: 0, w: 8, h: 8 };
 /// trace.record(TraceRecord::direct(block, 0, 8)?)?;
@@ -399,21 +558,18 @@ impl std::error::Error for ReplayError {}
 /// ```
 pub fn replay(
     trace: &[u8],
-    references: [&Picture; 2],
+    references: [&PaddedPicture; 2],
     col_mv: Option<&[i16]>,
     target: &mut Picture,
 ) -> Replay {
-    let number = |at: usize| {
-        let bytes = [*trace.get(at)?, *trace.get(at + 1)?];
-        Some(u32::from(u16::from_le_bytes(bytes)))
-    };
-    let sides = number(5).zip(number(7));
-    // As if it had no samples, so that the call refuses it in its turn.
-    let [planes0, planes1] = references.map(|picture| match sides == Some(picture.sides()) {
-        true => picture.samples(),
-        false => Default::default(),
+    // Without a header that can be read the call refuses before it looks at the pictures.
+    let sides = TraceReader::new(trace).ok().map(|trace| {
+        let TraceHeader { pic_w, pic_h, .. } = *trace.header();
+        (pic_w, pic_h)
     });
-    let planes = match sides == Some(target.sides()) {
+    let [planes0, planes1] = references.map(|picture| picture.samples_for(sides));
+    let fits = sides.is_some_and(|sides| target.misfit(sides).is_none());
+    let planes = match fits {
         true => target.samples_mut(),
         false => Default::default(),
     };

@@ -1,6 +1,14 @@
 //! The structs of include/evc_inter.h that a caller fills or reads.
 
 /// A vector in quarter luma samples, or a position in them.
+///
+/// ```
+/// use evc_inter::EvcMv;
+///
+/// let half_a_sample_left = EvcMv { x: -2, y: 0 };
+/// assert_eq!(EvcMv::default(), EvcMv { x: 0, y: 0 });
+/// # assert_ne!(half_a_sample_left, EvcMv::default());
+/// ```
 #[derive(Clone, Copy, Debug, Default, PartialEq, Eq, Hash)]
 #[repr(C)]
 pub struct EvcMv {
@@ -11,6 +19,14 @@ pub struct EvcMv {
 }
 
 /// A block of a picture, in luma samples.
+///
+/// ```
+/// use evc_inter::EvcBlock;
+///
+/// let first = EvcBlock { pic_w: 416, pic_h: 240, x: 0, y: 0, w: 64, h: 64 };
+/// let beside = EvcBlock { x: 64, ..first };
+/// assert_eq!((beside.pic_w, beside.x, beside.w), (416, 64, 64));
+/// ```
 #[derive(Clone, Copy, Debug, Default, PartialEq, Eq, Hash)]
 #[repr(C)]
 pub struct EvcBlock {
@@ -29,6 +45,14 @@ pub struct EvcBlock {
 }
 
 /// What a block takes from one list of references. The default is a list not in use.
+///
+/// ```
+/// use evc_inter::{EvcList, EvcMv};
+///
+/// let list0 = EvcList { used: true, mv: EvcMv { x: 2, y: 0 }, poc: 8 };
+/// let none = EvcList::default();
+/// assert!(list0.used && !none.used);
+/// ```
 #[derive(Clone, Copy, Debug, Default, PartialEq, Eq, Hash)]
 #[repr(C)]
 pub struct EvcList {
@@ -40,7 +64,18 @@ pub struct EvcList {
     pub poc: u32,
 }
 
-/// The record of four candidates that `evc_get_motion` changes.
+/// The record of four candidates that [`evc_get_motion`](crate::evc_get_motion) changes.
+///
+/// ```
+/// use evc_inter::{evc_get_motion, EvcBlock, EvcCandidates, EvcMv, Refusal};
+///
+/// let block = EvcBlock { pic_w: 4, pic_h: 4, x: 0, y: 0, w: 4, h: 4 };
+/// let mut cand = EvcCandidates { refi: [-1; 4], ..Default::default() };
+/// evc_get_motion(block, 0, 0, &[0; 4], None, &mut cand)?; // no neighbour, no collocated map
+/// assert_eq!([cand.left, cand.up, cand.up_right], [EvcMv { x: 1, y: 1 }; 3]);
+/// assert_eq!((cand.collocated, cand.refi), (EvcMv::default(), [0; 4]));
+/// # Ok::<(), Refusal>(())
+/// ```
 #[derive(Clone, Copy, Debug, Default, PartialEq, Eq, Hash)]
 #[repr(C)]
 pub struct EvcCandidates {
@@ -61,6 +96,15 @@ pub struct EvcCandidates {
 ///
 /// [`TraceRecord`](crate::TraceRecord) makes those that are accepted: "Fields of an unused list are
 /// zero, and so are both vectors of kind 3."
+///
+/// ```
+/// use evc_inter::{EvcTraceRecord, TraceMotion, TraceRecord};
+///
+/// let motion = TraceMotion::Direct { poc: [0, 8] };
+/// let record = EvcTraceRecord::from(TraceRecord { x: 16, y: 0, w: 8, h: 4, motion });
+/// let want = EvcTraceRecord { x: 16, w: 8, h: 4, kind: 3, poc1: 8, ..Default::default() };
+/// assert_eq!(record, want);
+/// ```
 #[derive(Clone, Copy, Debug, Default, PartialEq, Eq, Hash)]
 #[repr(C)]
 pub struct EvcTraceRecord {

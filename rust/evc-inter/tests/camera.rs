@@ -1,6 +1,9 @@
 //! Document 02's W4: the camera movement field, as a program for describers fills it.
 
+mod lcg;
+
 use evc_inter::*;
+use lcg::Lcg;
 
 const INTER: u32 = 1 << 31;
 const INTRA: u32 = 1 << 31 | 1 << 15;
@@ -76,18 +79,7 @@ fn cut() -> Shot {
     Shot::new(32, 16, |_| (INTRA, [3, 3]))
 }
 
-/// Numbers that look random.
-struct Lcg(u64);
-
 impl Lcg {
-    fn next(&mut self) -> u32 {
-        self.0 = self
-            .0
-            .wrapping_mul(6364136223846793005)
-            .wrapping_add(1442695040888963407);
-        (self.0 >> 32) as u32
-    }
-
     /// Not -32768, which has no negation.
     fn component(&mut self) -> i16 {
         (self.next() as i16).max(-32767)

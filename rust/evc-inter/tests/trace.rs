@@ -1,40 +1,26 @@
 //! Document 02's W1: the bytes that are written, and replay against the calls one by one.
 
+mod lcg;
+mod pictures;
+
 use evc_inter::*;
+use lcg::Lcg;
 use std::io;
 
 const SIDES: (u32, u32) = (48, 32);
 const POC: [u32; 2] = [0, 8];
 const CURRENT: u32 = 3;
 
-/// Numbers that look random.
-struct Lcg(u64);
-
 impl Lcg {
-    fn below(&mut self, n: u32) -> u32 {
-        self.0 = self
-            .0
-            .wrapping_mul(6364136223846793005)
-            .wrapping_add(1442695040888963407);
-        (self.0 >> 33) as u32 % n
-    }
-
     fn mv(&mut self) -> EvcMv {
         let [x, y] = [0, 1].map(|_| self.below(601) as i16 - 300);
         EvcMv { x, y }
     }
 }
 
-fn references() -> [Picture; 2] {
+fn references() -> [PaddedPicture; 2] {
     let lcg = &mut Lcg(1);
-    [0, 1].map(|_| {
-        let mut picture = Picture::new(SIDES.0, SIDES.1).unwrap();
-        for row in picture.planes.iter_mut().flat_map(|p| p.rows_mut()) {
-            row.fill_with(|| lcg.below(1024) as u16);
-        }
-        picture.pad().unwrap();
-        picture
-    })
+    [0, 1].map(|_| lcg.picture(SIDES.0, SIDES.1))
 }
 
 fn col_mv() -> Vec<i16> {
@@ -58,11 +44,10 @@ fn grey() -> Picture {
 /// one by one.
 fn kept(records: usize) -> (Vec<u8>, Vec<Picture>) {
     let (references, col_mv, lcg) = (references(), col_mv(), &mut Lcg(3));
-    let [planes0, planes1] = references.each_ref().map(Picture::samples);
     let (pic_w, pic_h) = SIDES;
     let mut trace = TraceWriter::new(Vec::new(), pic_w, pic_h, CURRENT, POC[0]).unwrap();
     let mut pictures = vec![grey()];
-    let (mut pred0, mut pred1) = ([0; CU_LEN], [0; CU_LEN]);
+    let mut predictor = Predictor::new();
     for n in 0..records {
         let [w, h] = [0, 1].map(|_| 4 << lcg.below(4));
         let [x, y] = [pic_w - w, pic_h - h].map(|room| 4 * lcg.below(room / 4 + 1));
@@ -89,24 +74,13 @@ fn kept(records: usize) -> (Vec<u8>, Vec<Picture>) {
             _ => TraceRecord::from_lists(block, list(0), list(1)),
         };
         trace.record(record.unwrap()).unwrap();
-        evc_mc2(
-            block,
-            list(0),
-            planes0,
-            list(1),
-            planes1,
-            &mut pred0,
-            &mut pred1,
-        )
-        .unwrap();
+        let lists = [0, 1].map(|k: usize| {
+            let picture = &references[k];
+            let (mv, poc) = (mv[k], POC[k]);
+            (kind != 1 - k).then_some(Reference { picture, mv, poc })
+        });
         let mut picture = pictures[n].clone();
-        for (c, plane) in picture.planes.iter_mut().enumerate() {
-            let half = if c == 0 { 1 } else { 2 };
-            let [x, y, w] = [x, y, w].map(|n| (n / half) as usize);
-            for (j, row) in cu_plane(&pred0, c, block.w, block.h).chunks(w).enumerate() {
-                plane.row_mut(y + j)[x..x + w].copy_from_slice(row);
-            }
-        }
+        predictor.predict(block, lists).unwrap().put(&mut picture);
         pictures.push(picture);
     }
     assert_eq!(trace.records(), records as u64);
@@ -254,18 +228,34 @@ fn refused_before() {
 fn pictures_of_two_sizes() {
     let (trace, _) = kept(1);
     for (pic_w, pic_h) in [(44, 32), (52, 32), (48, 28), (48, 36), (32, 48)] {
-        let right = Picture::new(SIDES.0, SIDES.1).unwrap();
-        let other = Picture::new(pic_w, pic_h).unwrap();
+        let right = Picture::new(SIDES.0, SIDES.1).unwrap().pad().unwrap();
+        let other = Picture::new(pic_w, pic_h).unwrap().pad().unwrap();
         for (references, target) in [
             ([&other, &right], &right),
             ([&right, &other], &right),
             ([&right, &right], &other),
         ] {
-            let mut target = target.clone();
+            let mut target = target.picture().clone();
             let replay = replay(&trace, references, None, &mut target);
             assert_eq!(replay.refusal, Some(Refusal::Buffer));
             assert!(target.samples().iter().all(|p| p.iter().all(|s| *s == 0)));
         }
+    }
+}
+
+/// A target whose planes do not belong together is none of the header's size.
+#[test]
+fn exchanged_planes() {
+    let (trace, _) = kept(1);
+    let reference = Picture::new(SIDES.0, SIDES.1).unwrap().pad().unwrap();
+    let larger = Picture::new(SIDES.0 + 4, SIDES.1).unwrap();
+    for c in 0..3 {
+        let mut target = grey();
+        target.planes[c] = larger.planes[c].clone();
+        let before = target.clone();
+        let replay = replay(&trace, [&reference; 2], None, &mut target);
+        assert_eq!(replay.refusal, Some(Refusal::Buffer), "{c}");
+        assert_eq!(target, before);
     }
 }
 

@@ -1,0 +1,29 @@
+//! A C caller reads what a Rust caller reads.
+
+use evc_inter::Refusal;
+
+/// The header, with literals that stand beside each other as one, which they are in C.
+fn header() -> String {
+    let (mut header, mut quote) = (String::new(), "");
+    for piece in include_str!("../../../include/evc_inter.h").split('"') {
+        if piece.trim().is_empty() {
+            quote = ""; // between two literals
+            continue;
+        }
+        header += quote;
+        header += piece;
+        quote = "\"";
+    }
+    header
+}
+
+/// Each message, without its number, is a text of `evc_message`.
+#[test]
+fn messages() {
+    let header = header();
+    for refusal in Refusal::ALL {
+        let text = refusal.to_string();
+        let (_, message) = text.split_once("): ").unwrap();
+        assert!(header.contains(&format!("\"{message}\"")), "{message}");
+    }
+}
