@@ -53,8 +53,10 @@ const GUARD: f64 = 3.0;
 
 pub struct Report {
     pub rounds: usize,
-    pub markdown: bool,
-    pub filter: String,
+    markdown: bool,
+    filter: String,
+    /// Where the names of the rows go if these alone are asked for.
+    names: Option<Vec<String>>,
     judged: Vec<(&'static str, String, f64)>,
     later: String,
 }
@@ -65,12 +67,17 @@ impl Report {
             rounds,
             markdown,
             filter,
+            names: None,
             judged: Vec::new(),
             later: String::new(),
         }
     }
 
-    pub fn wants(&self, what: &str) -> bool {
+    pub fn wants(&mut self, what: &str) -> bool {
+        if let Some(names) = &mut self.names {
+            names.push(what.to_string());
+            return false;
+        }
         what.contains(&self.filter)
     }
 
@@ -115,6 +122,9 @@ impl Report {
                 println!("{what}: {ratio:.2} times the limit's time, at most {GUARD}");
             }
         }
+        if rows == 0 {
+            println!("no filtered row of one plane to look at");
+        }
         i32::from(rows == 0 || slow > 0)
     }
 
@@ -141,6 +151,14 @@ impl Report {
         self.table("The targets", &head, &rows);
         print!("{}{tables}", self.later);
     }
+}
+
+/// The names of the rows of some tables, none of which is measured.
+pub fn names(run: fn(&mut Report)) -> Vec<String> {
+    let mut report = Report::new(1, false, String::new());
+    report.names = Some(Vec::new());
+    run(&mut report);
+    report.names.unwrap_or_default()
 }
 
 fn markdown(title: &str, head: &[&str], rows: &[Vec<String>]) -> String {

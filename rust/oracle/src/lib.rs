@@ -2,6 +2,7 @@
 //! a thin function for each call that is compared.
 
 #![allow(warnings)] // revc's files are taken as they are
+#![deny(non_fmt_panics)] // in edition 2018 the values of a message alone are not put in
 
 // The crates that revc's files name.
 #[macro_use]

@@ -30,12 +30,12 @@ pub(crate) fn spaced<T: ToString>(numbers: &[T]) -> String {
 }
 
 pub(crate) fn small(n: usize) -> u16 {
-    assert!(n < 65536, "{n} has no two bytes");
+    assert!(n < 65536, "{} has no two bytes", n);
     n as u16
 }
 
 /// The ends of 32 bits in two bytes: from 65,280 on, as far below 2^32 as below 2^16.
 pub(crate) fn narrow(n: u32) -> u16 {
-    assert!(n < 0xff00 || n >= 0xffff_ff00, "{n} has no two bytes");
+    assert!(n < 0xff00 || n >= 0xffff_ff00, "{} has no two bytes", n);
     n as u16
 }

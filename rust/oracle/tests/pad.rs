@@ -29,7 +29,10 @@ fn assert_padded(r: Padding) {
     let mut by_the_document = before;
     let pic = [r.pic_w as u32, r.pic_h as u32];
     assert_eq!(model::pad(r.chroma, pic, &mut by_the_document), 0, "{r:?}");
-    assert!(by_the_document == after, "{:?}", r);
+    for (k, (sample, want)) in after.iter().zip(&by_the_document).enumerate() {
+        let (x, y) = (k % cfg.stride, k / cfg.stride);
+        assert_eq!(sample, want, "{r:?} at {x}, {y}");
+    }
 }
 
 /// Every allowed side up to 36, both ways, and some larger ones.
