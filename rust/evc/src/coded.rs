@@ -1,0 +1,248 @@
+//! A picture as a list of blocks, each with what it is predicted from.
+
+use crate::report::{Failure, Result};
+use evc_inter::{evc_get_mv_dir, evc_mv_clip, EvcBlock, EvcList, EvcMv, Flip, PaddedPicture};
+use evc_inter::{Picture, Predictor, Reference, Refusal, TraceRecord, TraceWriter};
+use std::collections::BTreeMap;
+use std::fmt;
+
+/// What a decoder has at hand for a picture between two others.
+pub struct References {
+    pub pictures: [PaddedPicture; 2],
+    pub poc: [u32; 2],
+    /// The picture's own order count.
+    pub current: u32,
+    /// The motion map of the second reference, four numbers a unit; its vectors lead to the first.
+    pub col_mv: Vec<i16>,
+}
+
+impl References {
+    pub fn sides(&self) -> (u32, u32) {
+        self.pictures[0].sides()
+    }
+
+    /// The first count that the second reference lists.
+    pub fn list_poc0(&self) -> u32 {
+        self.poc[0]
+    }
+
+    pub fn direct(&self, block: EvcBlock) -> std::result::Result<[EvcMv; 2], Refusal> {
+        let ([poc0, poc1], list_poc0) = (self.poc, self.list_poc0());
+        evc_get_mv_dir(
+            block,
+            self.current,
+            poc0,
+            poc1,
+            list_poc0,
+            Some(&self.col_mv),
+        )
+    }
+
+    pub fn flipped(&self, flip: Flip) -> Result<[PaddedPicture; 2]> {
+        let [first, second] = self.pictures.each_ref().map(|picture| {
+            let flipped = picture.picture().flipped(flip).pad();
+            flipped.map_err(|e| Failure::at("flipped reference")(e.refusal()))
+        });
+        Ok([first?, second?])
+    }
+}
+
+/// The kinds of a trace's records, by their numbers.
+#[derive(Clone, Copy, Debug, PartialEq, Eq, PartialOrd, Ord)]
+pub enum Kind {
+    List0,
+    List1,
+    Both,
+    Direct,
+}
+
+impl Kind {
+    pub const ALL: [Kind; 4] = [Kind::List0, Kind::List1, Kind::Both, Kind::Direct];
+
+    pub fn uses(self, list: usize) -> bool {
+        self as usize == list || self >= Kind::Both
+    }
+}
+
+impl fmt::Display for Kind {
+    fn fmt(&self, f: &mut fmt::Formatter<'_>) -> fmt::Result {
+        f.write_str(["list 0", "list 1", "both", "direct"][*self as usize])
+    }
+}
+
+/// A block and its motion; the vector of a list not in use is not looked at.
+#[derive(Clone, Copy, Debug, PartialEq)]
+pub struct Coded {
+    pub block: EvcBlock,
+    pub kind: Kind,
+    pub mv: [EvcMv; 2],
+}
+
+impl fmt::Display for Coded {
+    fn fmt(&self, f: &mut fmt::Formatter<'_>) -> fmt::Result {
+        let b = &self.block;
+        write!(f, "block of {} by {} at {}, {}", b.w, b.h, b.x, b.y)?;
+        for list in (0..2).filter(|list| self.kind.uses(*list)) {
+            write!(
+                f,
+                ", list {list} by ({}, {})",
+                self.mv[list].x, self.mv[list].y
+            )?;
+        }
+        Ok(())
+    }
+}
+
+impl Coded {
+    pub fn lists<'a>(
+        &self,
+        pictures: &'a [PaddedPicture; 2],
+        poc: [u32; 2],
+    ) -> [Option<Reference<'a>>; 2] {
+        [0, 1].map(|list| {
+            self.kind.uses(list).then(|| Reference {
+                picture: &pictures[list],
+                mv: self.mv[list],
+                poc: poc[list],
+            })
+        })
+    }
+
+    /// The vectors in use.
+    pub fn vectors(&self) -> impl Iterator<Item = EvcMv> + '_ {
+        (0..2)
+            .filter(|list| self.kind.uses(*list))
+            .map(|list| self.mv[list])
+    }
+
+    /// Direct vectors are kept as they are, since the collocated unit does not turn with the block.
+    pub fn flipped(&self, flip: Flip) -> Coded {
+        Coded {
+            block: self.block.flipped(flip),
+            kind: self.kind.min(Kind::Both),
+            mv: self.mv.map(|mv| mv.flipped(flip)),
+        }
+    }
+
+    fn record(&self, poc: [u32; 2]) -> std::result::Result<TraceRecord, Refusal> {
+        if self.kind == Kind::Direct {
+            return TraceRecord::direct(self.block, poc[0], poc[1]);
+        }
+        let [list0, list1] = [0, 1].map(|list| EvcList {
+            used: self.kind.uses(list),
+            mv: self.mv[list],
+            poc: poc[list],
+        });
+        TraceRecord::from_lists(self.block, list0, list1)
+    }
+}
+
+/// Grey all over, borders too: a place that is not written, or wrongly is, shows.
+pub fn target((w, h): (u32, u32)) -> Result<Picture> {
+    let mut picture = Picture::new(w, h).map_err(Failure::at(format!("{w} by {h}")))?;
+    picture
+        .samples_mut()
+        .into_iter()
+        .for_each(|plane| plane.fill(512));
+    Ok(picture)
+}
+
+/// The picture that the blocks give, from these references.
+pub fn predicted(
+    pictures: &[PaddedPicture; 2],
+    poc: [u32; 2],
+    blocks: &[Coded],
+) -> Result<Picture> {
+    let mut picture = target(pictures[0].sides())?;
+    let mut predictor = Predictor::new();
+    for coded in blocks {
+        let prediction = predictor.predict(coded.block, coded.lists(pictures, poc));
+        prediction.map_err(Failure::at(coded))?.put(&mut picture);
+    }
+    Ok(picture)
+}
+
+/// What was asked for, as a trace.
+pub fn trace(references: &References, blocks: &[Coded]) -> Result<Vec<u8>> {
+    let (w, h) = references.sides();
+    let failed = |e: std::io::Error| Failure::File(format!("trace: {e}"));
+    let mut trace = TraceWriter::new(Vec::new(), w, h, references.current, references.list_poc0())
+        .map_err(failed)?;
+    for coded in blocks {
+        let record = coded.record(references.poc).map_err(Failure::at(coded))?;
+        trace.record(record).map_err(failed)?;
+    }
+    Ok(trace.into_inner())
+}
+
+/// The motion map and the unit words that a decoder has once the picture is decoded.
+pub fn maps((w, h): (u32, u32), blocks: &[Coded]) -> (Vec<i16>, Vec<u32>) {
+    let columns = (w / 4) as usize;
+    let units = columns * (h / 4) as usize;
+    let (mut map_mv, mut map_scu) = (vec![0; 4 * units], vec![0; units]);
+    for Coded { block: b, kind, mv } in blocks {
+        let [x, y, w, h] = [b.x, b.y, b.w, b.h].map(|n| (n / 4) as usize);
+        let unit = [0, 1].map(|list| match kind.uses(list) {
+            true => [mv[list].x, mv[list].y],
+            false => [0; 2],
+        });
+        for at in (y..y + h).flat_map(|row| (x..x + w).map(move |column| row * columns + column)) {
+            map_mv[4 * at..4 * at + 4].copy_from_slice(unit.as_flattened());
+            map_scu[at] = 1 << 31; // coded, not intra
+        }
+    }
+    (map_mv, map_scu)
+}
+
+/// How many blocks and vectors of each sort there are.
+#[derive(Default)]
+pub struct Tally {
+    pub sizes: BTreeMap<(u32, u32), u64>,
+    pub kinds: [u64; 4],
+    /// Vectors that copy, filter down, across, both ways.
+    pub paths: [u64; 4],
+    pub clipped: u64,
+}
+
+impl Tally {
+    pub fn of(blocks: &[Coded]) -> Result<Tally> {
+        let mut tally = Tally::default();
+        for coded in blocks {
+            *tally
+                .sizes
+                .entry((coded.block.w, coded.block.h))
+                .or_default() += 1;
+            tally.kinds[coded.kind as usize] += 1;
+            for mv in coded.vectors() {
+                let [across, down] = [mv.x, mv.y].map(|n| usize::from(n & 3 != 0));
+                tally.paths[2 * across + down] += 1;
+                let clipped = evc_mv_clip(coded.block, mv).map_err(Failure::at(coded))?;
+                tally.clipped += u64::from(clipped != mv);
+            }
+        }
+        Ok(tally)
+    }
+
+    pub fn blocks(&self) -> u64 {
+        self.kinds.iter().sum()
+    }
+
+    pub fn said_sizes(&self) -> String {
+        let largest_first = self.sizes.iter().rev();
+        let said = largest_first.map(|((w, h), n)| format!("{n} of {w}x{h}"));
+        said.collect::<Vec<_>>().join(", ")
+    }
+
+    pub fn said_kinds(&self) -> String {
+        let said = Kind::ALL.map(|kind| format!("{} {kind}", self.kinds[kind as usize]));
+        said.join(", ")
+    }
+
+    pub fn said_vectors(&self) -> String {
+        let [copied, down, across, both] = self.paths;
+        format!(
+            "{copied} copy, {across} filter across, {down} down, {both} both ways; {} are clipped",
+            self.clipped
+        )
+    }
+}

@@ -1,0 +1,214 @@
+//! Files that are written: under a temporary name first, so that nothing stands half-written under
+//! its own, and never over an input.
+
+use crate::report::{Failure, Result};
+use std::ffi::{c_char, c_int, CString};
+use std::fs::{self, File};
+use std::io::{self, BufWriter};
+use std::os::unix::ffi::OsStrExt;
+use std::os::unix::fs::MetadataExt;
+use std::path::{Path, PathBuf};
+use std::ptr::null_mut;
+use std::sync::atomic::{AtomicPtr, Ordering::SeqCst};
+
+/// The temporary name that is being written to, if there is one: an interrupted run takes it away.
+static UNFINISHED: AtomicPtr<c_char> = AtomicPtr::new(null_mut());
+
+const SIGHUP: c_int = 1;
+const SIGINT: c_int = 2;
+const SIGTERM: c_int = 15;
+const SIG_DFL: usize = 0;
+
+extern "C" {
+    fn signal(signum: c_int, handler: usize) -> usize;
+    fn raise(signum: c_int) -> c_int;
+    fn unlink(path: *const c_char) -> c_int;
+}
+
+/// Ends the run by the same signal, so that whoever started it sees why.
+extern "C" fn interrupted(signum: c_int) {
+    let path = UNFINISHED.load(SeqCst);
+    // SAFETY: these may be called while a signal is handled; a path is set while it is alive.
+    unsafe {
+        if !path.is_null() {
+            unlink(path);
+        }
+        signal(signum, SIG_DFL);
+        raise(signum);
+    }
+}
+
+/// From here on an interrupted run leaves no temporary file.
+pub fn tidy_when_interrupted() {
+    for signum in [SIGHUP, SIGINT, SIGTERM] {
+        // SAFETY: the handler is a function for the whole run.
+        unsafe { signal(signum, interrupted as extern "C" fn(c_int) as usize) };
+    }
+}
+
+/// A temporary file, gone when dropped, but for one that was renamed.
+struct Temporary {
+    path: PathBuf,
+    name: *mut c_char,
+}
+
+impl Temporary {
+    fn new(beside: &Path) -> io::Result<(Temporary, File)> {
+        let name = beside.file_name().unwrap_or_default().to_string_lossy();
+        let path = beside.with_file_name(format!(".{name}.{}.part", std::process::id()));
+        let name = CString::new(path.as_os_str().as_bytes())?.into_raw();
+        UNFINISHED.store(name, SeqCst);
+        let temporary = Temporary { path, name };
+        let file = File::create(&temporary.path)?;
+        Ok((temporary, file))
+    }
+}
+
+impl Drop for Temporary {
+    fn drop(&mut self) {
+        let _ = fs::remove_file(&self.path); // gone already if it was renamed
+        UNFINISHED.store(null_mut(), SeqCst);
+        // SAFETY: made by `into_raw`, and given back once.
+        drop(unsafe { CString::from_raw(self.name) });
+    }
+}
+
+/// A file as the system tells them apart, whatever its name.
+fn identity(path: &Path) -> Option<(u64, u64)> {
+    let file = fs::metadata(path).ok()?;
+    Some((file.dev(), file.ino()))
+}
+
+/// The files that a run reads, which it must not write to.
+#[derive(Default)]
+pub struct Inputs(Vec<(u64, u64)>);
+
+impl Inputs {
+    pub fn new<'a>(paths: impl IntoIterator<Item = &'a PathBuf>) -> Inputs {
+        Inputs(
+            paths
+                .into_iter()
+                .filter_map(|path| identity(path))
+                .collect(),
+        )
+    }
+
+    /// An output that is an input is told before the work begins, too.
+    pub fn allow(&self, path: &Path) -> Result<()> {
+        match identity(path) {
+            Some(file) if self.0.contains(&file) => Err(Failure::File(format!(
+                "{}: is an input, and not written to",
+                path.display()
+            ))),
+            _ => Ok(()),
+        }
+    }
+
+    /// Writes a file whole, or leaves what was there.
+    pub fn write(
+        &self,
+        path: &Path,
+        with: impl FnOnce(&mut BufWriter<File>) -> io::Result<()>,
+    ) -> Result<()> {
+        self.allow(path)?;
+        if path.is_dir() {
+            return Err(not_written(path, "is a folder"));
+        }
+        let written = Temporary::new(path).and_then(|(temporary, file)| {
+            let mut file = BufWriter::new(file);
+            with(&mut file)?;
+            file.into_inner()?.sync_all()?;
+            fs::rename(&temporary.path, path)
+        });
+        written.map_err(|e| not_written(path, e))
+    }
+
+    /// Tries that a file can be made there, before the work begins; `path` is left as it is.
+    pub fn try_file(&self, path: &Path) -> Result<()> {
+        self.allow(path)?;
+        if path.is_dir() {
+            return Err(not_written(path, "is a folder"));
+        }
+        let tried = Temporary::new(path).map(drop);
+        tried.map_err(|e| not_written(path, e))
+    }
+
+    /// Makes a folder, and tries that files can be made in it.
+    pub fn try_folder(&self, path: &Path) -> Result<()> {
+        fs::create_dir_all(path).map_err(|e| not_written(path, e))?;
+        let tried = Temporary::new(&path.join("evc")).map(drop);
+        tried.map_err(|e| not_written(path, e))
+    }
+}
+
+fn not_written(path: &Path, why: impl std::fmt::Display) -> Failure {
+    Failure::File(format!("{}: not written: {why}", path.display()))
+}
+
+/// A folder of a test's own.
+#[cfg(test)]
+pub fn test_folder(name: &str) -> PathBuf {
+    let folder = std::env::temp_dir().join(format!("evc-{name}-{}", std::process::id()));
+    let _ = fs::remove_dir_all(&folder);
+    fs::create_dir_all(&folder).unwrap();
+    folder
+}
+
+#[cfg(test)]
+mod tests {
+    use super::*;
+    use std::io::Write;
+
+    fn names(folder: &Path) -> Vec<String> {
+        let entries = fs::read_dir(folder).unwrap();
+        let mut names: Vec<_> = entries
+            .map(|entry| entry.unwrap().file_name().into_string().unwrap())
+            .collect();
+        names.sort();
+        names
+    }
+
+    /// One test, since a process has one unfinished file at a time.
+    #[test]
+    fn whole_or_not_at_all() {
+        let folder = test_folder("output");
+        let path = folder.join("picture");
+        let none = Inputs::default();
+        none.write(&path, |file| file.write_all(b"old")).unwrap();
+        assert_eq!(fs::read(&path).unwrap(), b"old");
+        assert_eq!(names(&folder), ["picture"]);
+
+        let full = none.write(&path, |file| {
+            file.write_all(b"new")?;
+            file.flush()?;
+            assert_eq!(names(&folder).len(), 2); // under another name
+            Err(io::Error::from(io::ErrorKind::StorageFull))
+        });
+        let Err(Failure::File(said)) = full else {
+            panic!("it was written")
+        };
+        assert!(said.contains("picture: not written: "), "{said}");
+        assert_eq!(fs::read(&path).unwrap(), b"old");
+        assert_eq!(names(&folder), ["picture"]);
+
+        // An input, also by another of its names.
+        let other = folder.join("link");
+        std::os::unix::fs::symlink(&path, &other).unwrap();
+        let inputs = Inputs::new([&path]);
+        for path in [&path, &other] {
+            let said = inputs.write(path, |file| file.write_all(b"new"));
+            assert!(matches!(said, Err(Failure::File(said)) if said.contains("is an input")));
+            assert!(inputs.try_file(path).is_err());
+        }
+        assert_eq!(fs::read(&path).unwrap(), b"old");
+
+        none.try_file(&folder.join("new")).unwrap();
+        none.try_folder(&folder.join("a/b")).unwrap();
+        assert_eq!(names(&folder), ["a", "link", "picture"]);
+        assert!(names(&folder.join("a/b")).is_empty());
+        assert!(none.try_folder(&path).is_err()); // a file
+        assert!(none.try_file(&folder.join("a")).is_err());
+        assert!(none.try_file(&folder.join("no/such/picture")).is_err());
+        fs::remove_dir_all(&folder).unwrap();
+    }
+}
