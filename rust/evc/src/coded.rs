@@ -1,8 +1,9 @@
 //! A picture as a list of blocks, each with what it is predicted from.
 
-use crate::report::{Failure, Result};
+use crate::call::{Call, List};
+use crate::report::{Console, Failure, Result};
 use evc_inter::{evc_get_mv_dir, evc_mv_clip, EvcBlock, EvcList, EvcMv, Flip, PaddedPicture};
-use evc_inter::{Picture, Predictor, Reference, Refusal, TraceRecord, TraceWriter};
+use evc_inter::{Picture, Predictor, Refusal, TraceRecord, TraceWriter};
 use std::collections::BTreeMap;
 use std::fmt;
 
@@ -80,32 +81,22 @@ pub struct Coded {
 
 impl fmt::Display for Coded {
     fn fmt(&self, f: &mut fmt::Formatter<'_>) -> fmt::Result {
-        let b = &self.block;
-        write!(f, "block of {} by {} at {}, {}", b.w, b.h, b.x, b.y)?;
-        for list in (0..2).filter(|list| self.kind.uses(*list)) {
-            write!(
-                f,
-                ", list {list} by ({}, {})",
-                self.mv[list].x, self.mv[list].y
-            )?;
-        }
-        Ok(())
+        self.call([0; 2]).fmt(f)
     }
 }
 
 impl Coded {
-    pub fn lists<'a>(
-        &self,
-        pictures: &'a [PaddedPicture; 2],
-        poc: [u32; 2],
-    ) -> [Option<Reference<'a>>; 2] {
-        [0, 1].map(|list| {
-            self.kind.uses(list).then(|| Reference {
-                picture: &pictures[list],
+    /// The prediction, from references of these order counts.
+    pub fn call(&self, poc: [u32; 2]) -> Call {
+        let lists = [0, 1].map(|list| {
+            self.kind.uses(list).then(|| List {
+                from: list,
                 mv: self.mv[list],
                 poc: poc[list],
             })
-        })
+        });
+        let block = self.block;
+        Call { block, lists }
     }
 
     /// The vectors in use.
@@ -128,11 +119,13 @@ impl Coded {
         if self.kind == Kind::Direct {
             return TraceRecord::direct(self.block, poc[0], poc[1]);
         }
-        let [list0, list1] = [0, 1].map(|list| EvcList {
-            used: self.kind.uses(list),
-            mv: self.mv[list],
-            poc: poc[list],
-        });
+        let list = |List { mv, poc, .. }| EvcList {
+            used: true,
+            mv,
+            poc,
+        };
+        let lists = self.call(poc).lists;
+        let [list0, list1] = lists.map(|used| used.map(list).unwrap_or_default());
         TraceRecord::from_lists(self.block, list0, list1)
     }
 }
@@ -156,7 +149,7 @@ pub fn predicted(
     let mut picture = target(pictures[0].sides())?;
     let mut predictor = Predictor::new();
     for coded in blocks {
-        let prediction = predictor.predict(coded.block, coded.lists(pictures, poc));
+        let prediction = coded.call(poc).predict(pictures, &mut predictor);
         prediction.map_err(Failure::at(coded))?.put(&mut picture);
     }
     Ok(picture)
@@ -197,10 +190,10 @@ pub fn maps((w, h): (u32, u32), blocks: &[Coded]) -> (Vec<i16>, Vec<u32>) {
 /// How many blocks and vectors of each sort there are.
 #[derive(Default)]
 pub struct Tally {
-    pub sizes: BTreeMap<(u32, u32), u64>,
-    pub kinds: [u64; 4],
+    sizes: BTreeMap<(u32, u32), u64>,
+    kinds: [u64; 4],
     /// Vectors that copy, filter down, across, both ways.
-    pub paths: [u64; 4],
+    paths: [u64; 4],
     pub clipped: u64,
 }
 
@@ -227,22 +220,107 @@ impl Tally {
         self.kinds.iter().sum()
     }
 
-    pub fn said_sizes(&self) -> String {
+    pub fn said(&self, console: &mut Console) {
+        console.say(format!("{} blocks: {}", self.blocks(), self.said_sizes()));
+        console.say(format!("kinds: {}", self.said_kinds()));
+        console.say(format!("vectors: {}", self.said_vectors()));
+    }
+
+    fn said_sizes(&self) -> String {
         let largest_first = self.sizes.iter().rev();
         let said = largest_first.map(|((w, h), n)| format!("{n} of {w}x{h}"));
         said.collect::<Vec<_>>().join(", ")
     }
 
-    pub fn said_kinds(&self) -> String {
+    fn said_kinds(&self) -> String {
         let said = Kind::ALL.map(|kind| format!("{} {kind}", self.kinds[kind as usize]));
         said.join(", ")
     }
 
-    pub fn said_vectors(&self) -> String {
+    fn said_vectors(&self) -> String {
         let [copied, down, across, both] = self.paths;
         format!(
             "{copied} copy, {across} filter across, {down} down, {both} both ways; {} are clipped",
             self.clipped
         )
+    }
+}
+
+#[cfg(test)]
+mod tests {
+    use super::*;
+
+    fn coded(x: u32, kind: Kind) -> Coded {
+        Coded {
+            block: EvcBlock {
+                pic_w: 16,
+                pic_h: 8,
+                x,
+                y: 0,
+                w: 8,
+                h: 8,
+            },
+            kind,
+            mv: [EvcMv { x: 5, y: -400 }, EvcMv { x: 0, y: 3 }],
+        }
+    }
+
+    #[test]
+    fn lists_in_use() {
+        let used = |kind: Kind| [kind.uses(0), kind.uses(1)];
+        let want = [[true, false], [false, true], [true, true], [true, true]];
+        assert_eq!(Kind::ALL.map(used), want);
+        assert_eq!(
+            coded(0, Kind::List1).to_string(),
+            "block of 8 by 8 at 0, 0, list 1 by (0, 3)"
+        );
+    }
+
+    /// What camera and candidates read: the vector of a list not in use is zero.
+    #[test]
+    fn in_maps() {
+        let blocks = [coded(0, Kind::List1), coded(8, Kind::Both)];
+        let (map_mv, map_scu) = maps((16, 8), &blocks);
+        assert_eq!(map_scu, [1 << 31; 8]);
+        let (first, second) = ([0, 0, 0, 3], [5, -400, 0, 3]);
+        let row = [first, first, second, second].concat();
+        assert_eq!(map_mv, [&row[..], &row].concat());
+        let (_, map_scu) = maps((16, 8), &blocks[1..]);
+        assert_eq!(map_scu[..4], [0, 0, 1 << 31, 1 << 31]);
+    }
+
+    #[test]
+    fn counted() {
+        let blocks = [Kind::List0, Kind::List1, Kind::Direct].map(|kind| coded(8, kind));
+        let tally = Tally::of(&blocks).unwrap();
+        assert_eq!((tally.blocks(), tally.clipped), (3, 2));
+        assert_eq!(tally.said_sizes(), "3 of 8x8");
+        assert_eq!(tally.said_kinds(), "1 list 0, 1 list 1, 0 both, 1 direct");
+        assert_eq!(
+            tally.said_vectors(),
+            "0 copy, 2 filter across, 2 down, 0 both ways; 2 are clipped"
+        );
+    }
+
+    #[test]
+    fn turned() {
+        for flip in [Flip::LeftRight, Flip::TopBottom] {
+            for kind in Kind::ALL {
+                let turned = coded(0, kind).flipped(flip);
+                assert_eq!(
+                    turned.kind,
+                    if kind == Kind::Direct {
+                        Kind::Both
+                    } else {
+                        kind
+                    }
+                );
+                let back = Coded {
+                    kind,
+                    ..turned.flipped(flip)
+                };
+                assert_eq!(back, coded(0, kind));
+            }
+        }
     }
 }

@@ -1,6 +1,6 @@
 //! Demand 3's general filter, one sample at a time as document 01 writes it out.
 
-use crate::turns::Call;
+use crate::call::Call;
 use crate::y4m::PLANES;
 use evc_inter::{cu_plane, EvcBlock, EvcMv, PaddedPicture, Plane};
 

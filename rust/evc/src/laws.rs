@@ -1,11 +1,12 @@
 //! Predictions held to what a caller may rely on: demand 3, and document 02's W6.
 
+use crate::call::Call;
 use crate::coded::References;
 use crate::general::{self, Place};
 use crate::progress::Progress;
 use crate::report::{Console, Failure, Result};
 use crate::splits;
-use crate::turns::{Call, Turn};
+use crate::turns::Turn;
 use evc_inter::{PaddedPicture, Predictor, Refusal};
 use std::fmt::Display;
 

@@ -1,6 +1,7 @@
 //! `evc`: predicts, replays and flips pictures with the proved calls of libevc_inter.a.
 
 mod args;
+mod call;
 mod camera;
 mod coded;
 mod colour;
@@ -10,9 +11,11 @@ mod folder;
 mod general;
 mod json;
 mod laws;
+mod material;
 mod output;
 mod png;
 mod predict;
+mod predicted;
 mod progress;
 mod random;
 mod replay;

@@ -93,15 +93,15 @@ impl Inputs {
         )
     }
 
-    /// An output that is an input is told before the work begins, too.
-    pub fn allow(&self, path: &Path) -> Result<()> {
-        match identity(path) {
-            Some(file) if self.0.contains(&file) => Err(Failure::File(format!(
-                "{}: is an input, and not written to",
-                path.display()
-            ))),
-            _ => Ok(()),
+    /// Where a file is written: what a symbolic link leads to, no input, and nothing but a file.
+    fn place(&self, path: &Path) -> Result<PathBuf> {
+        if identity(path).is_some_and(|file| self.0.contains(&file)) {
+            return Err(not_written(path, "it is an input"));
         }
+        if fs::metadata(path).is_ok_and(|there| !there.is_file()) {
+            return Err(not_written(path, "something else than a file is there"));
+        }
+        Ok(fs::canonicalize(path).unwrap_or(path.into()))
     }
 
     /// Writes a file whole, or leaves what was there.
@@ -110,26 +110,19 @@ impl Inputs {
         path: &Path,
         with: impl FnOnce(&mut BufWriter<File>) -> io::Result<()>,
     ) -> Result<()> {
-        self.allow(path)?;
-        if path.is_dir() {
-            return Err(not_written(path, "is a folder"));
-        }
-        let written = Temporary::new(path).and_then(|(temporary, file)| {
+        let place = self.place(path)?;
+        let written = Temporary::new(&place).and_then(|(temporary, file)| {
             let mut file = BufWriter::new(file);
             with(&mut file)?;
             file.into_inner()?.sync_all()?;
-            fs::rename(&temporary.path, path)
+            fs::rename(&temporary.path, &place)
         });
         written.map_err(|e| not_written(path, e))
     }
 
     /// Tries that a file can be made there, before the work begins; `path` is left as it is.
     pub fn try_file(&self, path: &Path) -> Result<()> {
-        self.allow(path)?;
-        if path.is_dir() {
-            return Err(not_written(path, "is a folder"));
-        }
-        let tried = Temporary::new(path).map(drop);
+        let tried = Temporary::new(&self.place(path)?).map(drop);
         tried.map_err(|e| not_written(path, e))
     }
 
@@ -197,10 +190,18 @@ mod tests {
         let inputs = Inputs::new([&path]);
         for path in [&path, &other] {
             let said = inputs.write(path, |file| file.write_all(b"new"));
-            assert!(matches!(said, Err(Failure::File(said)) if said.contains("is an input")));
+            assert!(matches!(said, Err(Failure::File(said)) if said.contains("it is an input")));
             assert!(inputs.try_file(path).is_err());
         }
         assert_eq!(fs::read(&path).unwrap(), b"old");
+
+        // A link is followed, and a device is no file to be replaced.
+        none.write(&other, |file| file.write_all(b"by the link"))
+            .unwrap();
+        assert_eq!(fs::read(&path).unwrap(), b"by the link");
+        assert!(other.is_symlink());
+        let null = Path::new("/dev/null");
+        assert!(none.write(null, |_| Ok(())).is_err() && none.try_file(null).is_err());
 
         none.try_file(&folder.join("new")).unwrap();
         none.try_folder(&folder.join("a/b")).unwrap();

@@ -1,9 +1,9 @@
 //! Blocks of all sizes with vectors of all sorts, made up and the same in every run: what is tried and
 //! not shown.
 
+use crate::call::{Call, List};
 use crate::coded::References;
 use crate::report::{Failure, Result};
-use crate::turns::{Call, List};
 use evc_inter::{evc_mv_clip, EvcBlock, EvcMv};
 use std::collections::BTreeSet;
 
@@ -125,4 +125,51 @@ fn split(
     };
     split(first, lcg, make)?;
     split(second, lcg, make)
+}
+
+#[cfg(test)]
+mod tests {
+    use super::*;
+    use crate::scene;
+    use evc_inter::Picture;
+
+    fn references(w: u32, h: u32) -> References {
+        let picture = || Picture::new(w, h).unwrap().pad().unwrap();
+        References {
+            pictures: [picture(), picture()],
+            poc: [2, 7],
+            current: 4,
+            col_mv: scene::motion_map(w, h, 7, 2),
+        }
+    }
+
+    /// Each sample is predicted once in every way.
+    #[test]
+    fn every_sample() {
+        for (w, h) in [(4, 4), (68, 132), (64, 8)] {
+            let mut times = vec![[0; 5]; (w * h) as usize];
+            for (n, call) in calls(&references(w, h)).unwrap().iter().enumerate() {
+                let b = call.block;
+                for y in b.y..b.y + b.h {
+                    (b.x..b.x + b.w).for_each(|x| times[(y * w + x) as usize][n % 5] += 1);
+                }
+            }
+            assert!(times.iter().all(|n| *n == [1; 5]), "{w} by {h}");
+        }
+    }
+
+    /// What is tried at the size of the built-in scene.
+    #[test]
+    fn sorts() {
+        let calls = calls(&references(416, 240)).unwrap();
+        let said = said(&calls).unwrap();
+        assert!(said.contains("in 25 sizes"), "{said}");
+        let lists = || calls.iter().flat_map(|call| call.lists).flatten();
+        assert!(lists().all(|list| list.mv.x > -32768 && list.mv.y > -32768));
+        assert!(lists().any(|list| list.mv.x.unsigned_abs() > 16000));
+        for (across, down) in [(0, 0), (0, 1), (1, 0), (1, 1)] {
+            let path = |list: &List| (u8::from(list.mv.x & 3 != 0), u8::from(list.mv.y & 3 != 0));
+            assert!(lists().any(|list| path(&list) == (across, down)));
+        }
+    }
 }

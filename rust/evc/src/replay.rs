@@ -4,8 +4,11 @@ use crate::args::Given;
 use crate::coded;
 use crate::colour;
 use crate::folder::{folders, Folder};
+use crate::json::Json;
+use crate::material::padded;
 use crate::output::Inputs;
-use crate::predict::{difference, padded, WAYS};
+use crate::predict::WAYS;
+use crate::predicted::difference;
 use crate::report::{Console, Failure, Outcome, Result};
 use crate::y4m::{Clip, Header};
 use evc_inter::{EvcTraceRecord, Flip, PaddedPicture, Picture, Replay, TraceReader};
@@ -144,7 +147,7 @@ impl Desk {
             .fact("finished", replay.finished)
             .fact("folder", &folder[..]);
         Ok(match self.beside {
-            Some(_) => outcome.fact("equal", crate::json::Json::Bool(agrees)),
+            Some(_) => outcome.fact("equal", Json::Bool(agrees)),
             None => outcome,
         })
     }
@@ -227,8 +230,7 @@ pub fn run(given: &Given, console: &mut Console) -> std::result::Result<(), Stri
     let (mut folders, desk) = match folders.and_then(|folders| Ok((folders, Desk::new(&asked)?))) {
         Ok(ready) => ready,
         Err(failure) => {
-            // All items wait for the same pictures, so the first has the note for all.
-            console.item(&traces[0].display().to_string(), failure.into());
+            console.items(&traces, &failure);
             return Ok(());
         }
     };

@@ -4,6 +4,7 @@ use crate::json::Json;
 use evc_inter::Refusal;
 use std::fmt::Display;
 use std::io::{self, Write};
+use std::path::PathBuf;
 use std::process::ExitCode;
 
 /// How a run ends, by its item that went worst.
@@ -171,6 +172,13 @@ impl Console {
             self.out(format!("{item}: {note}"));
         } else {
             let _ = writeln!(io::stderr(), "evc: {item}: {note}");
+        }
+    }
+
+    /// The same for all of them.
+    pub fn items(&mut self, items: &[PathBuf], failure: &Failure) {
+        for item in items {
+            self.item(&item.display().to_string(), failure.clone().into());
         }
     }
 

@@ -106,3 +106,34 @@ fn noise(seed: usize, x: f64, y: f64) -> f64 {
     let across = |j: f64| at(i, j) * (1.0 - fx) + at(i + 1.0, j) * fx;
     across(j) * (1.0 - fy) + across(j + 1.0) * fy
 }
+
+#[cfg(test)]
+mod tests {
+    use super::*;
+
+    /// A vector leads to where a thing is at the other time.
+    #[test]
+    fn moved() {
+        let (w, h) = (256, 128);
+        let [before, after] = [1, 5].map(|time| picture(w, h, time).unwrap());
+        let [wall, disc] = vectors(1, 5); // whole samples over four pictures
+        assert_eq!(
+            (wall.x % 4, wall.y % 4, disc.x % 4, disc.y % 4),
+            (0, 0, 0, 0)
+        );
+        let sample =
+            |picture: &Picture, x: i32, y: i32| picture.planes[0].row(y as usize)[x as usize];
+        let map = motion_map(w, h, 1, 5);
+        assert_eq!(map.len(), 4 * 64 * 32);
+        let unit = |x: i32, y: i32| &map[4 * (y / 4 * 64 + x / 4) as usize..][..2];
+        let centre = (0.35 * 256.0 + 3.5, 0.6 * 128.0 - 2.25);
+        let disc_at = (centre.0 as i32, centre.1 as i32);
+        for (mv, (x, y)) in [(wall, (180, 20)), (disc, disc_at)] {
+            assert_eq!(unit(x, y), [mv.x, mv.y]);
+            for (x, y) in [(x, y), (x + 1, y), (x, y + 2)] {
+                let there = (x + i32::from(mv.x) / 4, y + i32::from(mv.y) / 4);
+                assert_eq!(sample(&before, x, y), sample(&after, there.0, there.1));
+            }
+        }
+    }
+}

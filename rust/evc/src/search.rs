@@ -187,7 +187,7 @@ impl<'a> Square<'a> {
     fn cost(&mut self, block: EvcBlock, kind: Kind, mv: [EvcMv; 2], enough: u64) -> Result<u64> {
         let References { pictures, poc, .. } = self.search.references;
         let coded = Coded { block, kind, mv };
-        let predicted = self.predictor.predict(block, coded.lists(pictures, *poc));
+        let predicted = coded.call(*poc).predict(pictures, &mut self.predictor);
         let prediction = predicted.map_err(Failure::at(coded))?;
         let vectors = if kind == Kind::Direct {
             0
@@ -341,4 +341,100 @@ fn halves((x, y, w, h): Key) -> [Option<[Key; 2]>; 2] {
         (w > 4).then(|| [(x, y, w / 2, h), (x + w / 2, y, w / 2, h)]),
         (h > 4).then(|| [(x, y, w, h / 2), (x, y + h / 2, w, h / 2)]),
     ]
+}
+
+#[cfg(test)]
+mod tests {
+    use super::*;
+    use crate::coded;
+    use crate::scene;
+
+    /// A picture of the scene between two others, with the motion of the second.
+    fn material(w: u32, h: u32) -> (References, Picture) {
+        let picture = |time| scene::picture(w, h, time).unwrap();
+        let references = References {
+            pictures: [1, 3].map(|time| picture(time).pad().unwrap()),
+            poc: [1, 3],
+            current: 2,
+            col_mv: scene::motion_map(w, h, 3, 1),
+        };
+        (references, picture(2))
+    }
+
+    fn difference(search: &Search, blocks: &[Coded]) -> u64 {
+        let References { pictures, poc, .. } = search.references;
+        let predicted = coded::predicted(pictures, *poc, blocks).unwrap();
+        let planes = predicted.planes.iter().zip(&search.picture.planes);
+        let rows = planes.flat_map(|(a, b)| a.rows().zip(b.rows()));
+        rows.map(|(a, b)| u64::from(super::difference(a, b))).sum()
+    }
+
+    /// Also in pictures whose sides are no multiples of 64, or below it.
+    #[test]
+    fn every_sample_once() {
+        for (w, h) in [(4, 4), (68, 36), (64, 8), (20, 76)] {
+            let (references, picture) = material(w, h);
+            let known = [[EvcMv::default(); 2]];
+            let search = Search {
+                references: &references,
+                picture: &picture,
+                kinds: &Kind::ALL,
+                vectors: Vectors::Known(&known),
+            };
+            let mut times = vec![0; (w * h) as usize];
+            for Coded { block: b, .. } in search.blocks("").unwrap() {
+                for y in b.y..b.y + b.h {
+                    (b.x..b.x + b.w).for_each(|x| times[(y * w + x) as usize] += 1);
+                }
+            }
+            assert!(times.iter().all(|n| *n == 1), "{w} by {h}");
+        }
+    }
+
+    /// The search comes about as near to the picture as the scene's own vectors, and much nearer than
+    /// no vectors; the direct kind, whose vectors cost nothing, is among those taken.
+    #[test]
+    fn found() {
+        let (references, picture) = material(96, 64);
+        let [list0, list1] = [1, 3].map(|time| scene::vectors(2, time));
+        let own = [[list0[0], list1[0]], [list0[1], list1[1]]];
+        let by = |kinds: &[Kind], vectors| {
+            let search = Search {
+                references: &references,
+                picture: &picture,
+                kinds,
+                vectors,
+            };
+            let blocks = search.blocks("").unwrap();
+            let direct = blocks.iter().any(|coded| coded.kind == Kind::Direct);
+            (difference(&search, &blocks), direct)
+        };
+        let searched = by(&Kind::ALL, Vectors::Searched);
+        let known = by(&Kind::ALL, Vectors::Known(&own));
+        let still = by(&[Kind::Both], Vectors::Known(&[[EvcMv::default(); 2]]));
+        assert!(known.1 && !still.1);
+        assert!(searched.0 < 2 * known.0, "{searched:?} {known:?}");
+        assert!(4 * searched.0 < still.0, "{searched:?} {still:?}");
+    }
+
+    #[test]
+    fn one_list_alone() {
+        let (references, _) = material(68, 36);
+        let search = Search {
+            references: &references,
+            picture: references.pictures[1].picture(),
+            kinds: &[Kind::List0],
+            vectors: Vectors::Searched,
+        };
+        let blocks = search.blocks("").unwrap();
+        assert!(blocks.iter().all(|coded| coded.kind == Kind::List0));
+        // Most of the wall goes where the scene says.
+        let [wall, _] = scene::vectors(3, 1);
+        let area = |blocks: &[Coded]| -> u32 { blocks.iter().map(|c| c.block.w * c.block.h).sum() };
+        let on_the_wall: Vec<_> = blocks
+            .into_iter()
+            .filter(|coded| coded.mv[0] == wall)
+            .collect();
+        assert!(2 * area(&on_the_wall) > 68 * 36, "{}", area(&on_the_wall));
+    }
 }

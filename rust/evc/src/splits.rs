@@ -1,6 +1,6 @@
 //! Document 02, W6: where clipping cannot be seen, and a block predicted as its four quarters.
 
-use crate::turns::{Call, List};
+use crate::call::{Call, List};
 use crate::y4m::PLANES;
 use evc_inter::{cu_plane, evc_mv_clip, EvcBlock, Refusal};
 

@@ -1,66 +1,9 @@
 //! Demand 3: a call, the call turned, and whether their first blocks agree.
 
-use crate::coded::Coded;
+use crate::call::{Call, List};
 use crate::y4m::PLANES;
-use evc_inter::{cu_plane, EvcBlock, EvcMv, Flip, PaddedPicture, Prediction, Predictor};
-use evc_inter::{Reference, Refusal};
+use evc_inter::{cu_plane, EvcBlock, Flip};
 use std::fmt;
-
-/// What a list takes its samples from: one of two pictures.
-#[derive(Clone, Copy, Debug, PartialEq)]
-pub struct List {
-    pub from: usize,
-    pub mv: EvcMv,
-    pub poc: u32,
-}
-
-/// A prediction to be held to the laws.
-#[derive(Clone, Copy, Debug, PartialEq)]
-pub struct Call {
-    pub block: EvcBlock,
-    pub lists: [Option<List>; 2],
-}
-
-impl fmt::Display for Call {
-    fn fmt(&self, f: &mut fmt::Formatter<'_>) -> fmt::Result {
-        let b = &self.block;
-        write!(f, "block of {} by {} at {}, {}", b.w, b.h, b.x, b.y)?;
-        for (k, list) in self.lists.iter().enumerate() {
-            if let Some(List { mv, .. }) = list {
-                write!(f, ", list {k} by ({}, {})", mv.x, mv.y)?;
-            }
-        }
-        Ok(())
-    }
-}
-
-impl Call {
-    /// A block as it is predicted.
-    pub fn new(coded: &Coded, poc: [u32; 2]) -> Call {
-        let lists = [0, 1].map(|list| {
-            coded.kind.uses(list).then(|| List {
-                from: list,
-                mv: coded.mv[list],
-                poc: poc[list],
-            })
-        });
-        let block = coded.block;
-        Call { block, lists }
-    }
-
-    pub fn predict<'a>(
-        &self,
-        pictures: &[PaddedPicture; 2],
-        predictor: &'a mut Predictor,
-    ) -> Result<Prediction<'a>, Refusal> {
-        let reference = |list: List| Reference {
-            picture: &pictures[list.from],
-            mv: list.mv,
-            poc: list.poc,
-        };
-        predictor.predict(self.block, self.lists.map(|list| list.map(reference)))
-    }
-}
 
 #[derive(Clone, Copy, Debug, PartialEq)]
 pub enum Turn {
@@ -130,7 +73,7 @@ impl fmt::Display for Turn {
 #[cfg(test)]
 mod tests {
     use super::*;
-    use evc_inter::CU_LEN;
+    use evc_inter::{EvcMv, CU_LEN};
 
     fn call() -> Call {
         let mv = EvcMv { x: 13, y: -32767 };
