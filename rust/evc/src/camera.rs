@@ -8,10 +8,11 @@ use std::fs::File;
 use std::io::{BufReader, Read};
 use std::path::{Path, PathBuf};
 
-/// Numbers of two or four bytes each, low byte first; fewer than asked for at the end of the file.
+/// Numbers of two or four bytes each, low byte first.
 struct Numbers {
     file: BufReader<File>,
     name: String,
+    is_at_end: bool,
 }
 
 impl Numbers {
@@ -19,14 +20,20 @@ impl Numbers {
         let name = path.display().to_string();
         let file = File::open(path).map_err(|e| Failure::File(format!("{name}: not read: {e}")))?;
         let file = BufReader::new(file);
-        Ok(Numbers { file, name })
+        Ok(Numbers {
+            file,
+            name,
+            is_at_end: false,
+        })
     }
 
+    /// Fewer than asked for at the end of the file, where bytes may be left that make no number.
     fn read<const N: usize, T>(&mut self, count: usize, of: fn([u8; N]) -> T) -> Result<Vec<T>> {
         let mut bytes = Vec::new();
         let limited = &mut (&mut self.file).take((count * N) as u64);
         let read = limited.read_to_end(&mut bytes);
         read.map_err(|e| Failure::File(format!("{}: not read: {e}", self.name)))?;
+        self.is_at_end = bytes.is_empty();
         let whole = bytes
             .chunks_exact(N)
             .filter_map(|bytes| bytes.try_into().ok());
@@ -56,7 +63,7 @@ fn pictures(console: &mut Console, sides: (u32, u32), item: &str, pair: &[PathBu
     for k in 0.. {
         let map_mv = motion.read(4 * units, i16::from_le_bytes)?;
         let map_scu = words.read(units, u32::from_le_bytes)?;
-        if k > 0 && map_mv.is_empty() && map_scu.is_empty() {
+        if k > 0 && motion.is_at_end && words.is_at_end {
             break;
         }
         let camera = evc_camera_motion(sides.0, sides.1, &map_mv, &map_scu);

@@ -168,8 +168,8 @@ pub const COMMANDS: [Command; 7] = [
         text: "In roff, for man: evc man | man -l -",
         options: &[],
         examples: &[("evc man > evc.1", "as evc install does")],
-        run: |_, _| {
-            say(&man());
+        run: |_, console| {
+            console.say(man().trim_end());
             Ok(())
         },
     },
@@ -189,12 +189,6 @@ const EXITS: [(&str, &str); 5] = [
     ),
     ("4", "a comparison disagreed"),
 ];
-
-/// That nobody reads it to the end is no error.
-pub fn say(text: &str) {
-    use std::io::Write;
-    let _ = std::io::stdout().write_all(text.as_bytes());
-}
 
 pub fn version() -> String {
     let version = env!("CARGO_PKG_VERSION");

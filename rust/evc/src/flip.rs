@@ -1,7 +1,7 @@
 //! `evc flip` and `evc flip-trace`: a reel that was scanned with the wrong side to the lens, turned.
 
 use crate::args::Given;
-use crate::output::Inputs;
+use crate::output::Files;
 use crate::replay;
 use crate::report::{Console, Failure, Outcome, Result};
 use crate::y4m::{self, Clip};
@@ -35,13 +35,13 @@ fn said(console: &mut Console, path: &Path, outcome: Result<Outcome>) {
 /// A clip, picture by picture.
 pub fn run(given: &Given, console: &mut Console) -> std::result::Result<(), String> {
     let (path, out, flip) = (file(given)?, given.wanted_path("--out")?, way(given)?);
-    let inputs = Inputs::new([&path]);
+    let files = Files::new([&path]);
     let turn = || {
-        inputs.try_file(&out)?;
+        files.try_file(&out)?;
         let mut clip = Clip::open(&path)?;
         let mut picture = clip.picture()?;
         let mut failure = None;
-        let written = inputs.write(&out, |file| {
+        let written = files.write(&out, |file| {
             clip.header.flipped(flip).write(file)?;
             loop {
                 match clip.read(&mut picture) {
@@ -89,13 +89,13 @@ fn turned(trace: &[u8], flip: Flip, col_mv: Option<&[i16]>) -> Result<(Vec<u8>, 
 pub fn run_trace(given: &Given, console: &mut Console) -> std::result::Result<(), String> {
     let (path, out, flip) = (file(given)?, given.wanted_path("--out")?, way(given)?);
     let map = given.path("--motion");
-    let inputs = Inputs::new([&path].into_iter().chain(&map));
+    let files = Files::new([&path].into_iter().chain(&map));
     let turn = || {
-        inputs.try_file(&out)?;
+        files.try_file(&out)?;
         let trace = replay::trace(&path)?;
         let col_mv = map.as_deref().map(replay::motion).transpose()?;
         let (trace, records, direct) = turned(&trace, flip, col_mv.as_deref())?;
-        inputs.write(&out, |file| file.write_all(&trace))?;
+        files.write(&out, |file| file.write_all(&trace))?;
         let from = match col_mv {
             Some(_) => "the map's",
             None => "zero, as without a map",

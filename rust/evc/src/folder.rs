@@ -1,6 +1,6 @@
 //! The folder of an item's pictures.
 
-use crate::output::Inputs;
+use crate::output::Files;
 use crate::png::{self, Image};
 use crate::report::{Console, Result};
 use crate::y4m::{self, Header};
@@ -10,17 +10,17 @@ use std::io::{self, BufWriter, Write};
 use std::path::{Path, PathBuf};
 
 pub struct Folder<'a> {
-    inputs: &'a Inputs,
+    files: &'a Files,
     pub path: PathBuf,
     names: Vec<String>,
 }
 
 impl<'a> Folder<'a> {
     /// Makes the folder and tries that files can be made in it.
-    pub fn new(inputs: &'a Inputs, path: PathBuf) -> Result<Folder<'a>> {
-        inputs.try_folder(&path)?;
+    pub fn new(files: &'a Files, path: PathBuf) -> Result<Folder<'a>> {
+        files.try_folder(&path)?;
         Ok(Folder {
-            inputs,
+            files,
             path,
             names: Vec::new(),
         })
@@ -31,7 +31,7 @@ impl<'a> Folder<'a> {
         name: &str,
         with: impl FnOnce(&mut BufWriter<File>) -> io::Result<()>,
     ) -> Result<()> {
-        self.inputs.write(&self.path.join(name), with)?;
+        self.files.write(&self.path.join(name), with)?;
         self.names.push(name.into());
         Ok(())
     }

@@ -22,6 +22,7 @@ mod replay;
 mod report;
 mod scene;
 mod search;
+mod shell;
 mod splits;
 mod turns;
 mod y4m;
@@ -30,31 +31,33 @@ use args::Given;
 use commands::{command, COMMANDS};
 use report::{Console, Exit};
 use std::ffi::OsString;
+use std::io::{self, Write};
 use std::process::ExitCode;
+
+/// Prints a page.
+fn page(text: &str) -> Result<Exit, String> {
+    let mut console = Console::new(false);
+    console.say(text.trim_end());
+    Ok(console.exit())
+}
 
 /// The run's end, or why the words make no sense.
 fn run(words: Vec<OsString>) -> Result<Exit, String> {
     let mut words = words.into_iter();
     let Some(name) = words.next() else {
-        commands::say(&commands::help());
-        return Ok(Exit::Done);
+        return page(&commands::help());
     };
     let name = name.to_string_lossy();
     let words: Vec<_> = words.collect();
     let command = match &name[..] {
         "-h" | "--help" | "help" => {
             let asked = words.first().map(|word| word.to_string_lossy());
-            let help = match asked.and_then(|name| command(&name)) {
+            return page(&match asked.and_then(|name| command(&name)) {
                 Some(command) => command.help(),
                 None => commands::help(),
-            };
-            commands::say(&help);
-            return Ok(Exit::Done);
+            });
         }
-        "-V" | "--version" => {
-            commands::say(&commands::version());
-            return Ok(Exit::Done);
-        }
+        "-V" | "--version" => return page(&commands::version()),
         name => command(name).ok_or_else(|| {
             let names: Vec<_> = COMMANDS.iter().map(|command| command.name).collect();
             format!("no such command: {name}; there are {}", names.join(", "))
@@ -62,8 +65,7 @@ fn run(words: Vec<OsString>) -> Result<Exit, String> {
     };
     let about = |said: String| format!("{name}: {said}; see evc {name} --help");
     let Some(given) = Given::read(command, words).map_err(about)? else {
-        commands::say(&command.help());
-        return Ok(Exit::Done);
+        return page(&command.help());
     };
     let mut console = Console::new(given.has("--json"));
     output::tidy_when_interrupted();
@@ -75,7 +77,7 @@ fn main() -> ExitCode {
     match run(std::env::args_os().skip(1).collect()) {
         Ok(exit) => exit.into(),
         Err(said) => {
-            eprintln!("evc: {said}");
+            let _ = writeln!(io::stderr(), "evc: {said}");
             Exit::Usage.into()
         }
     }

@@ -2,6 +2,7 @@
 //! its own, and never over an input.
 
 use crate::report::{Failure, Result};
+use std::cell::RefCell;
 use std::ffi::{c_char, c_int, CString};
 use std::fs::{self, File};
 use std::io::{self, BufWriter};
@@ -18,6 +19,7 @@ const SIGHUP: c_int = 1;
 const SIGINT: c_int = 2;
 const SIGTERM: c_int = 15;
 const SIG_DFL: usize = 0;
+const SIG_IGN: usize = 1;
 
 extern "C" {
     fn signal(signum: c_int, handler: usize) -> usize;
@@ -42,7 +44,12 @@ extern "C" fn interrupted(signum: c_int) {
 pub fn tidy_when_interrupted() {
     for signum in [SIGHUP, SIGINT, SIGTERM] {
         // SAFETY: the handler is a function for the whole run.
-        unsafe { signal(signum, interrupted as extern "C" fn(c_int) as usize) };
+        unsafe {
+            // What is ignored stays so: a run under nohup outlives its terminal.
+            if signal(signum, SIG_IGN) != SIG_IGN {
+                signal(signum, interrupted as extern "C" fn(c_int) as usize);
+            }
+        }
     }
 }
 
@@ -79,24 +86,35 @@ fn identity(path: &Path) -> Option<(u64, u64)> {
     Some((file.dev(), file.ino()))
 }
 
-/// The files that a run reads, which it must not write to.
+/// The files that a run reads, which it must not write to, and those that it has written.
 #[derive(Default)]
-pub struct Inputs(Vec<(u64, u64)>);
+pub struct Files {
+    inputs: Vec<(u64, u64)>,
+    written: RefCell<Vec<(u64, u64)>>,
+}
 
-impl Inputs {
-    pub fn new<'a>(paths: impl IntoIterator<Item = &'a PathBuf>) -> Inputs {
-        Inputs(
-            paths
-                .into_iter()
-                .filter_map(|path| identity(path))
-                .collect(),
-        )
+impl Files {
+    /// `-` is standard input, which may be a file too.
+    pub fn new<'a>(inputs: impl IntoIterator<Item = &'a PathBuf>) -> Files {
+        let identity = |path: &PathBuf| match path == Path::new("-") {
+            true => identity(Path::new("/dev/stdin")),
+            false => identity(path),
+        };
+        Files {
+            inputs: inputs.into_iter().filter_map(identity).collect(),
+            written: RefCell::default(),
+        }
     }
 
     /// Where a file is written: what a symbolic link leads to, no input, and nothing but a file.
     fn place(&self, path: &Path) -> Result<PathBuf> {
-        if identity(path).is_some_and(|file| self.0.contains(&file)) {
+        let is_among =
+            |files: &[(u64, u64)]| identity(path).is_some_and(|file| files.contains(&file));
+        if is_among(&self.inputs) {
             return Err(not_written(path, "it is an input"));
+        }
+        if is_among(&self.written.borrow()) {
+            return Err(not_written(path, "it was written just now"));
         }
         if fs::metadata(path).is_ok_and(|there| !there.is_file()) {
             return Err(not_written(path, "something else than a file is there"));
@@ -117,7 +135,9 @@ impl Inputs {
             file.into_inner()?.sync_all()?;
             fs::rename(&temporary.path, &place)
         });
-        written.map_err(|e| not_written(path, e))
+        written.map_err(|e| not_written(path, e))?;
+        self.written.borrow_mut().extend(identity(&place));
+        Ok(())
     }
 
     /// Tries that a file can be made there, before the work begins; `path` is left as it is.
@@ -166,11 +186,16 @@ mod tests {
     fn whole_or_not_at_all() {
         let folder = test_folder("output");
         let path = folder.join("picture");
-        let none = Inputs::default();
-        none.write(&path, |file| file.write_all(b"old")).unwrap();
+        let first = Files::default();
+        first.write(&path, |file| file.write_all(b"old")).unwrap();
         assert_eq!(fs::read(&path).unwrap(), b"old");
         assert_eq!(names(&folder), ["picture"]);
 
+        // A second time in one run is a mistake of its words.
+        let again = first.write(&path, |file| file.write_all(b"new"));
+        assert!(matches!(again, Err(Failure::File(said)) if said.contains("written just now")));
+
+        let none = Files::default();
         let full = none.write(&path, |file| {
             file.write_all(b"new")?;
             file.flush()?;
@@ -187,7 +212,7 @@ mod tests {
         // An input, also by another of its names.
         let other = folder.join("link");
         std::os::unix::fs::symlink(&path, &other).unwrap();
-        let inputs = Inputs::new([&path]);
+        let inputs = Files::new([&path]);
         for path in [&path, &other] {
             let said = inputs.write(path, |file| file.write_all(b"new"));
             assert!(matches!(said, Err(Failure::File(said)) if said.contains("it is an input")));

@@ -6,10 +6,11 @@ use crate::folder::{folders, Folder};
 use crate::json::Json;
 use crate::laws;
 use crate::material::{frames, scene, Material};
-use crate::output::Inputs;
+use crate::output::Files;
 use crate::predicted::Predicted;
 use crate::random;
 use crate::report::{Console, Outcome, Result};
+use crate::shell::quoted;
 use evc_inter::Flip;
 use std::io::Write;
 use std::path::PathBuf;
@@ -30,7 +31,7 @@ struct Asked {
 /// Predicts an item, holds it to the laws, and writes it.
 fn item(
     console: &mut Console,
-    inputs: &Inputs,
+    files: &Files,
     folder: &mut Folder,
     asked: &Asked,
     material: Material,
@@ -67,11 +68,15 @@ fn item(
     }
     folder.said(console);
     if let Some(path) = &asked.trace {
-        inputs.write(path, |file| file.write_all(&predicted.trace))?;
-        let (trace, at) = (path.display(), folder.path.display());
+        files.write(path, |file| file.write_all(&predicted.trace))?;
+        let at = |name: &str| quoted(&folder.path.join(name));
         console.say(format!(
-            "wrote {trace}; to replay it: evc replay {trace} --ref0 {at}/reference0.y4m \
-             --ref1 {at}/reference1.y4m --motion {at}/reference1.motion"
+            "wrote {}; to replay it: evc replay --ref0 {} --ref1 {} --motion {} -- {}",
+            path.display(),
+            at("reference0.y4m"),
+            at("reference1.y4m"),
+            at("reference1.motion"),
+            quoted(path)
         ));
     }
     let outcome = match all {
@@ -115,16 +120,16 @@ pub fn run(given: &Given, console: &mut Console) -> std::result::Result<(), Stri
         return Err("--trace is for one clip".into());
     }
     let out = given.path("--out").unwrap_or("evc-out".into());
-    let inputs = Inputs::new(&clips);
+    let files = Files::new(&clips);
     let items = match clips.is_empty() {
         true => vec![PathBuf::from("scene")],
         false => clips.clone(),
     };
     let folders = folders(&out, &items).into_iter();
-    let folders = folders.map(|path| Folder::new(&inputs, path));
+    let folders = folders.map(|path| Folder::new(&files, path));
     let tried = folders.collect::<Result<Vec<_>>>();
     let tried = tried.and_then(|folders| match &asked.trace {
-        Some(path) => inputs.try_file(path).map(|()| folders),
+        Some(path) => files.try_file(path).map(|()| folders),
         None => Ok(folders),
     });
     let mut folders = match tried {
@@ -139,8 +144,7 @@ pub fn run(given: &Given, console: &mut Console) -> std::result::Result<(), Stri
             true => scene(size.unwrap_or((416, 240))),
             false => frames(path, asked.frame),
         };
-        let outcome =
-            material.and_then(|material| item(console, &inputs, folder, &asked, material));
+        let outcome = material.and_then(|material| item(console, &files, folder, &asked, material));
         console.item(
             &path.display().to_string(),
             outcome.unwrap_or_else(Outcome::from),

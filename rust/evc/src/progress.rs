@@ -26,8 +26,13 @@ impl Progress {
     pub fn step(&mut self) {
         self.done += 1;
         if self.next.is_some_and(|next| Instant::now() >= next) {
-            eprint!("\r{}: {} of {} ", self.name, self.done, self.of);
-            let _ = io::stderr().flush();
+            let _ = write!(
+                io::stderr(),
+                "\r{}: {} of {} ",
+                self.name,
+                self.done,
+                self.of
+            );
             self.next = Some(Instant::now() + Duration::from_millis(200));
             self.shown = true;
         }
@@ -37,7 +42,7 @@ impl Progress {
 impl Drop for Progress {
     fn drop(&mut self) {
         if self.shown {
-            eprint!("\r\x1b[K"); // the counts follow on standard output
+            let _ = write!(io::stderr(), "\r\x1b[K"); // the counts follow on standard output
         }
     }
 }

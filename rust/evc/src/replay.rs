@@ -6,7 +6,7 @@ use crate::colour;
 use crate::folder::{folders, Folder};
 use crate::json::Json;
 use crate::material::padded;
-use crate::output::Inputs;
+use crate::output::Files;
 use crate::predict::WAYS;
 use crate::predicted::difference;
 use crate::report::{Console, Failure, Outcome, Result};
@@ -221,11 +221,11 @@ pub fn run(given: &Given, console: &mut Console) -> std::result::Result<(), Stri
         .iter()
         .chain(&asked.motion)
         .chain(&asked.target);
-    let inputs = Inputs::new(traces.iter().chain(others).chain(&asked.beside));
+    let files = Files::new(traces.iter().chain(others).chain(&asked.beside));
     let out = given.path("--out").unwrap_or("evc-out".into());
     let folders = folders(&out, &traces).into_iter();
     let folders = folders
-        .map(|path| Folder::new(&inputs, path))
+        .map(|path| Folder::new(&files, path))
         .collect::<Result<Vec<_>>>();
     let (mut folders, desk) = match folders.and_then(|folders| Ok((folders, Desk::new(&asked)?))) {
         Ok(ready) => ready,

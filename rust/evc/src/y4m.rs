@@ -1,10 +1,11 @@
 //! Clips: .y4m with 10-bit 4:2:0 samples, one picture at a time.
 
 use crate::report::{Failure, Result};
+use crate::shell::quoted_file;
 use evc_inter::{Flip, Picture};
 use std::fs::File;
 use std::io::{self, BufRead, BufReader, Read, Write};
-use std::path::Path;
+use std::path::{Path, PathBuf};
 
 const MAGIC: &str = "YUV4MPEG2";
 
@@ -28,8 +29,8 @@ impl Header {
     }
 
     /// A header's line, without its end.
-    fn read(line: &str, name: &str) -> Result<Header> {
-        let bad = |what: &str| Failure::File(format!("{what}; {}", taken_copy(name, "")));
+    fn read(line: &str, path: &Path) -> Result<Header> {
+        let bad = |what: &str| Failure::File(format!("{what}; {}", taken_copy(path, "")));
         let Some(tags) = line.strip_prefix(MAGIC).filter(|tags| {
             tags.is_empty() || tags.starts_with([' ', '\r']) // not YUV4MPEG21
         }) else {
@@ -111,19 +112,19 @@ impl Header {
 }
 
 /// The ffmpeg line that makes a copy which is taken.
-fn taken_copy(name: &str, filter: &str) -> String {
-    let stem = name.rsplit_once('.').map_or(name, |(stem, _)| stem);
-    let quoted = |name: &str| match name.contains([' ', '\'', '"', '$', '&', '(', ')', ';']) {
-        true => format!("'{}'", name.replace('\'', "'\\''")),
-        false => name.into(),
+fn taken_copy(path: &Path, filter: &str) -> String {
+    let stem = match path == Path::new("-") {
+        true => "input".into(),
+        false => path.file_stem().unwrap_or_default().to_string_lossy(),
     };
-    let (from, to) = (quoted(name), quoted(&format!("{stem}-10bit.y4m")));
+    let copy = path.with_file_name(format!("{stem}-10bit.y4m"));
+    let [from, to] = [path, &copy].map(quoted_file);
     format!("a copy that is taken: ffmpeg -i {from} {filter}-pix_fmt yuv420p10le -strict -1 {to}")
 }
 
 /// A clip that is read picture by picture.
 pub struct Clip {
-    name: String,
+    path: PathBuf,
     file: Box<dyn BufRead>,
     pub header: Header,
     /// How many pictures have been read.
@@ -133,18 +134,21 @@ pub struct Clip {
 impl Clip {
     /// A file, or standard input by the name `-`.
     pub fn open(path: &Path) -> Result<Clip> {
-        if path == Path::new("-") {
-            return Clip::new("standard input", Box::new(io::stdin().lock()));
-        }
-        let file = File::open(path).map_err(|e| Failure::File(format!("not read: {e}")))?;
-        Clip::new(&path.display().to_string(), Box::new(BufReader::new(file)))
+        let file: Box<dyn BufRead> = match path == Path::new("-") {
+            true => Box::new(io::stdin().lock()),
+            false => {
+                let file = File::open(path).map_err(|e| Failure::File(format!("not read: {e}")))?;
+                Box::new(BufReader::new(file))
+            }
+        };
+        Clip::new(path, file)
     }
 
-    pub fn new(name: &str, mut file: Box<dyn BufRead>) -> Result<Clip> {
-        let header = Header::read(&line(&mut file)?.unwrap_or_default(), name)?;
-        let name = name.into();
+    fn new(path: &Path, mut file: Box<dyn BufRead>) -> Result<Clip> {
+        let header = Header::read(&line(&mut file)?.unwrap_or_default(), path)?;
+        let path = path.into();
         Ok(Clip {
-            name,
+            path,
             file,
             header,
             frames: 0,
@@ -162,7 +166,7 @@ impl Clip {
                 .all(|side| (1..=8128).contains(side))
                 .then(|| {
                     let filter = "-vf 'pad=ceil(iw/4)*4:ceil(ih/4)*4' ";
-                    taken_copy(&self.name, filter)
+                    taken_copy(&self.path, filter)
                 }),
         })
     }
@@ -265,7 +269,10 @@ mod tests {
     }
 
     fn clip(bytes: &[u8]) -> Result<Clip> {
-        Clip::new("reel 7.mov", Box::new(io::Cursor::new(bytes.to_vec())))
+        Clip::new(
+            Path::new("reel 7.mov"),
+            Box::new(io::Cursor::new(bytes.to_vec())),
+        )
     }
 
     fn first(bytes: &[u8]) -> Result<Picture> {
@@ -306,7 +313,7 @@ mod tests {
         );
         let made = Header::new((12, 8));
         let line = format!("YUV4MPEG2 {}", made.tags);
-        assert_eq!(Header::read(&line, "made"), Ok(made));
+        assert_eq!(Header::read(&line, Path::new("made")), Ok(made));
     }
 
     #[test]
