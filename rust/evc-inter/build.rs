@@ -26,7 +26,7 @@ fn main() {
     }
     let given = env::var_os("EVC_INTER_ARCHIVE_DIR").map(PathBuf::from);
     let is_own = given.is_none();
-    let dir = given.unwrap_or_else(|| Path::new(ROOT).join("target/staticlib"));
+    let dir = given.unwrap_or_else(own_dir);
     let archive = dir.join(ARCHIVE);
     println!("cargo::rerun-if-changed={}", archive.display());
     if !archive.exists() {
@@ -45,6 +45,17 @@ fn main() {
 
 fn var(name: &str) -> String {
     env::var(name).unwrap_or_default()
+}
+
+/// Where the archive is if nobody says: in the repository, or where `evc install` has put it with the crate.
+fn own_dir() -> PathBuf {
+    let root = Path::new(ROOT);
+    let made = root.join("target/staticlib");
+    if made.exists() || root.join("crates").exists() {
+        made
+    } else {
+        root.join("../lib")
+    }
 }
 
 /// The sources beside the repository's own archive may have changed since it was made.

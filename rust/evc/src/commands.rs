@@ -152,8 +152,8 @@ pub const COMMANDS: [Command; 7] = [
         takes: "--prefix DIR | --tarball[=FILE]",
         what: "installs header, archive, tool and manual page",
         text: "From the repository, as ./evc install: bin/evc, include/evc_inter.h, lib/libevc_inter.a, \
-               lib/pkgconfig/evc_inter.pc, share/man/man1/evc.1 and the examples, below DIR or in a tarball for \
-               machines without the Rattle toolchain.",
+               lib/pkgconfig/evc_inter.pc, share/man/man1/evc.1, the crate in share/evc_inter/evc-inter, documents and \
+               examples, below DIR or in a tarball for machines without the Rattle toolchain.",
         options: &[
             opt("--prefix", Value::Wanted("DIR"), "where to; DESTDIR is put before it"),
             opt("--tarball", Value::Optional("FILE"), "packs the same (evc_inter-VERSION-x86_64-linux.tar.gz)"),
