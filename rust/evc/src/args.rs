@@ -97,6 +97,27 @@ impl Given {
         self.path(name).ok_or(format!("{name} is needed"))
     }
 
+    /// A file or folder that is written; standard output is for notes.
+    pub fn output(&self, name: &str) -> Result<Option<PathBuf>, String> {
+        let path = self.path(name);
+        match path.as_ref().and_then(|path| path.to_str()) {
+            Some("" | "-") => Err(format!("{name} needs a name")),
+            _ => Ok(path),
+        }
+    }
+
+    pub fn wanted_output(&self, name: &str) -> Result<PathBuf, String> {
+        self.output(name)?.ok_or(format!("{name} is needed"))
+    }
+
+    /// That there is nothing but options.
+    pub fn no_words(&self) -> Result<(), String> {
+        match self.words.first() {
+            Some(word) => Err(format!("takes nothing, not '{}'", word.to_string_lossy())),
+            None => Ok(()),
+        }
+    }
+
     /// The value of an option, if it is given; `what` says what it should be, with an example.
     pub fn number<T: FromStr>(&self, name: &str, what: &str) -> Result<Option<T>, String> {
         let parsed = |value: &OsStr| {
@@ -136,7 +157,7 @@ impl Given {
         Ok(Some(*one))
     }
 
-    /// The words as files, `least` of them or more.
+    /// The words as files.
     pub fn files(&self) -> Vec<PathBuf> {
         self.words.iter().map(PathBuf::from).collect()
     }

@@ -2,15 +2,15 @@
 
 use crate::args::Given;
 use crate::json::Json;
+use crate::replay::opened;
 use crate::report::{Console, Failure, Outcome, Result};
 use evc_inter::{evc_camera_motion, CameraMotion, PlaneConfig};
-use std::fs::File;
 use std::io::{BufReader, Read};
 use std::path::{Path, PathBuf};
 
 /// Numbers of two or four bytes each, low byte first.
 struct Numbers {
-    file: BufReader<File>,
+    file: BufReader<Box<dyn Read>>,
     name: String,
     is_at_end: bool,
 }
@@ -18,7 +18,7 @@ struct Numbers {
 impl Numbers {
     fn open(path: &Path) -> Result<Numbers> {
         let name = path.display().to_string();
-        let file = File::open(path).map_err(|e| Failure::File(format!("{name}: not read: {e}")))?;
+        let file = opened(path).map_err(|e| Failure::File(format!("{name}: not read: {e}")))?;
         let file = BufReader::new(file);
         Ok(Numbers {
             file,
@@ -69,6 +69,9 @@ fn pictures(console: &mut Console, sides: (u32, u32), item: &str, pair: &[PathBu
         let camera = evc_camera_motion(sides.0, sides.1, &map_mv, &map_scu);
         let camera = camera.map_err(Failure::at(format!("picture {k}")))?;
         console.item(item, outcome(k, camera));
+        if console.is_closed {
+            break; // nobody reads on, and nothing else is left to do
+        }
     }
     Ok(())
 }

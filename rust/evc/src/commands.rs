@@ -21,7 +21,7 @@ pub struct Command {
 const OUT: Opt = opt(
     "--out",
     Value::Wanted("DIR"),
-    "the folder that gets a folder for each item (evc-out)",
+    "the folder that gets a folder for each item; evc-out if it is not given",
 );
 const JSON: Opt = opt(
     "--json",
@@ -31,7 +31,7 @@ const JSON: Opt = opt(
 const LEFT_RIGHT: Opt = opt(
     "--left-right",
     Value::Nothing,
-    "turns left to right; so it does without a word",
+    "turns left to right, which is the default",
 );
 const TOP_BOTTOM: Opt = opt("--top-bottom", Value::Nothing, "turns top to bottom");
 const WAY: &str = "left-right|top-bottom";
@@ -51,14 +51,15 @@ pub const COMMANDS: [Command; 7] = [
                call predicts. Every predicted block is checked against the general filter, its mirror images, \
                the exchanged lists and its quarters; the picture is predicted again from flipped references, and \
                its trace is replayed. Clips have 10-bit 4:2:0 samples (C420p10); - is standard input. The folder \
-               of an item gets predicted, true and difference pictures (.y4m, .png), blocks.png with the blocks' \
-               edges (yellow list 0, blue list 1, white both, pink direct), side-by-side.png (straight, and \
-               flipped and turned back), and the raw maps that evc camera and evc replay read.",
+               of an item, CLIP-frameN, gets predicted, true and difference pictures (.y4m, .png; difference.y4m \
+               is 512 where both are equal), blocks.png with the blocks' edges (yellow list 0, blue list 1, white \
+               both, pink direct), side-by-side.png (straight, and flipped and turned back), and the raw maps that \
+               evc camera and evc replay read. A PSNR is null in JSON where all samples are equal.",
         options: &[
-            opt("--frame", Value::Wanted("N"), "the frame of each clip, from 0 on (1)"),
+            opt("--frame", Value::Wanted("N"), "the frame of each clip, from 0 on; 1 if it is not given"),
             opt("--flip", Value::Optional(WAY), "writes the reel as scanned with the wrong side to the lens too: flipped.y4m, flipped.png beside the straight print, and the flipped references"),
             opt("--trace", Value::Wanted("FILE"), "keeps the trace: what was asked for each block; the references are written beside the pictures"),
-            opt("--size", Value::Wanted("WxH"), "the size of the built-in scene (416x240)"),
+            opt("--size", Value::Wanted("WxH"), "the size of the built-in scene; 416x240 if it is not given"),
             OUT,
             JSON,
         ],
@@ -79,8 +80,8 @@ pub const COMMANDS: [Command; 7] = [
         options: &[
             opt("--ref0", Value::Wanted("A.y4m"), "the reference of list 0"),
             opt("--ref1", Value::Wanted("B.y4m"), "the reference of list 1"),
-            opt("--frame0", Value::Wanted("N"), "its frame of A.y4m (0)"),
-            opt("--frame1", Value::Wanted("N"), "its frame of B.y4m (0)"),
+            opt("--frame0", Value::Wanted("N"), "its frame of A.y4m; 0 if it is not given"),
+            opt("--frame1", Value::Wanted("N"), "its frame of B.y4m; 0 if it is not given"),
             opt("--motion", Value::Wanted("MAP"), "the motion map of the reference of list 1, for direct records: four numbers of 16 bits a unit, low byte first; none if it had none"),
             opt("--target", Value::Wanted("T.y4m"), "the picture that the blocks are put into; grey without it"),
             opt("--beside", Value::Wanted("P.y4m"), "a picture to set it beside, sample for sample: side-by-side.png"),
@@ -139,7 +140,8 @@ pub const COMMANDS: [Command; 7] = [
         text: "Reads pairs of raw files: motion maps (four numbers of 16 bits for each 4 by 4 unit: list 0 across, \
                down, list 1 across, down) and unit words (32 bits each: bit 31 coded, bit 15 intra), row by row, \
                low byte first. A pair may hold any number of pictures, one behind the other. Each gets a sentence: \
-               undetermined, still, or moving with the mean of its list 0 vectors in luma samples.",
+               undetermined, still, or moving with the mean of its list 0 vectors in luma samples. A unit that is \
+               predicted from list 1 alone counts too, with what the map has for list 0.",
         options: &[opt("--size", Value::Wanted("WxH"), "the size of the pictures"), JSON],
         examples: &[(
             "evc camera --size 416x240 evc-out/scene/predicted.motion evc-out/scene/predicted.units",
@@ -156,7 +158,7 @@ pub const COMMANDS: [Command; 7] = [
                examples, below DIR or in a tarball for machines without the Rattle toolchain.",
         options: &[
             opt("--prefix", Value::Wanted("DIR"), "where to; DESTDIR is put before it"),
-            opt("--tarball", Value::Optional("FILE"), "packs the same (evc_inter-VERSION-x86_64-linux.tar.gz)"),
+            opt("--tarball", Value::Optional("FILE"), "packs the same; evc_inter-VERSION-x86_64-linux.tar.gz if no FILE is given"),
         ],
         examples: &[("./evc install --prefix /usr/local", "for all users of a machine")],
         run: |_, _| Err("is for the repository: run ./evc install there".into()),
@@ -168,7 +170,8 @@ pub const COMMANDS: [Command; 7] = [
         text: "In roff, for man: evc man | man -l -",
         options: &[],
         examples: &[("evc man > evc.1", "as evc install does")],
-        run: |_, console| {
+        run: |given, console| {
+            given.no_words()?;
             console.say(man().trim_end());
             Ok(())
         },
@@ -192,7 +195,7 @@ const EXITS: [(&str, &str); 5] = [
 
 pub fn version() -> String {
     let version = env!("CARGO_PKG_VERSION");
-    format!("evc {version}, with the proved calls of libevc_inter.a: document 01, and W1, W3, W4 and W6 of document 02\n")
+    format!("evc {version}\nwith the proved calls of documents 01 and 02 (W1, W3, W4, W6)\n")
 }
 
 /// Words on lines of at most 100 columns, each behind some blanks.
@@ -297,10 +300,18 @@ fn man() -> String {
             let _ = write!(man, ".PP\n{}:\n.br\n.B {}\n", roff(what), roff(line));
         }
     }
-    man.push_str(".SH EXIT STATUS\n");
+    man.push_str(
+        ".SH OPTIONS\n.TP\n.B evc COMMAND \\-\\-help\nthe help of a command\n\
+         .TP\n.B evc \\-\\-version\nthe version, and which calls are in it\n.SH EXIT STATUS\n",
+    );
     for (number, what) in EXITS {
         let _ = write!(man, ".TP\n.B {number}\n{what}\n");
     }
+    man.push_str(
+        ".SH FILES\nA file is written as .NAME.PID.part first, and renamed when it is whole. Only a run that was killed \
+         by force leaves one, which may be deleted.\n.SH SEE ALSO\nThe calls for C and C++ are declared and described in evc_inter.h; putting them into a \
+         decoder, from Rust too, is in INTEGRATION.md of the installed documents (share/doc/evc_inter).\n",
+    );
     man
 }
 

@@ -3,7 +3,7 @@
 use crate::args::Given;
 use crate::output::Files;
 use crate::replay;
-use crate::report::{Console, Failure, Outcome, Result};
+use crate::report::{counted, Console, Failure, Outcome, Result};
 use crate::y4m::{self, Clip};
 use evc_inter::{Flip, TraceMotion, TraceReader, TraceWriter};
 use std::io::{self, Write};
@@ -21,6 +21,7 @@ fn way(given: &Given) -> std::result::Result<Flip, String> {
 fn file(given: &Given) -> std::result::Result<PathBuf, String> {
     match &given.files()[..] {
         [file] => Ok(file.clone()),
+        [] => Err("which file is to be turned?".into()),
         _ => Err("one file is turned at a time".into()),
     }
 }
@@ -34,7 +35,7 @@ fn said(console: &mut Console, path: &Path, outcome: Result<Outcome>) {
 
 /// A clip, picture by picture.
 pub fn run(given: &Given, console: &mut Console) -> std::result::Result<(), String> {
-    let (path, out, flip) = (file(given)?, given.wanted_path("--out")?, way(given)?);
+    let (path, out, flip) = (file(given)?, given.wanted_output("--out")?, way(given)?);
     let files = Files::new([&path]);
     let turn = || {
         files.try_file(&out)?;
@@ -55,11 +56,9 @@ pub fn run(given: &Given, console: &mut Console) -> std::result::Result<(), Stri
             }
         });
         failure.map_or(written, Err)?;
-        let (frames, out) = (clip.frames, out.display());
-        Ok(
-            Outcome::done(format!("{frames} frames flipped {flip} into {out}"))
-                .fact("frames", frames),
-        )
+        let frames = counted(clip.frames, "frame");
+        let note = format!("{frames} flipped {flip} into {}", out.display());
+        Ok(Outcome::done(note).fact("frames", clip.frames))
     };
     said(console, &path, turn());
     Ok(())
@@ -87,7 +86,7 @@ fn turned(trace: &[u8], flip: Flip, col_mv: Option<&[i16]>) -> Result<(Vec<u8>, 
 
 /// A trace.
 pub fn run_trace(given: &Given, console: &mut Console) -> std::result::Result<(), String> {
-    let (path, out, flip) = (file(given)?, given.wanted_path("--out")?, way(given)?);
+    let (path, out, flip) = (file(given)?, given.wanted_output("--out")?, way(given)?);
     let map = given.path("--motion");
     let files = Files::new([&path].into_iter().chain(&map));
     let turn = || {
@@ -105,7 +104,10 @@ pub fn run_trace(given: &Given, console: &mut Console) -> std::result::Result<()
             n => format!("; {n} direct ones became both lists, their vectors are {from}"),
         };
         let out = out.display();
-        let note = format!("{records} records flipped {flip} into {out}{direct_said}");
+        let note = format!(
+            "{} flipped {flip} into {out}{direct_said}",
+            counted(records, "record")
+        );
         Ok(Outcome::done(note)
             .fact("records", records)
             .fact("direct", direct))

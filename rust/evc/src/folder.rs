@@ -5,7 +5,7 @@ use crate::png::{self, Image};
 use crate::report::{Console, Result};
 use crate::y4m::{self, Header};
 use evc_inter::Picture;
-use std::fs::File;
+use std::fs::{self, File};
 use std::io::{self, BufWriter, Write};
 use std::path::{Path, PathBuf};
 
@@ -13,16 +13,19 @@ pub struct Folder<'a> {
     files: &'a Files,
     pub path: PathBuf,
     names: Vec<String>,
+    is_new: bool,
 }
 
 impl<'a> Folder<'a> {
     /// Makes the folder and tries that files can be made in it.
     pub fn new(files: &'a Files, path: PathBuf) -> Result<Folder<'a>> {
+        let is_new = !path.exists();
         files.try_folder(&path)?;
         Ok(Folder {
             files,
             path,
             names: Vec::new(),
+            is_new,
         })
     }
 
@@ -69,17 +72,28 @@ impl<'a> Folder<'a> {
     }
 }
 
-/// A folder for each of some items, by their names without the ending; equal ones get a number.
-pub fn folders(out: &Path, items: &[PathBuf]) -> Vec<PathBuf> {
+/// One that was made for nothing does not stay.
+impl Drop for Folder<'_> {
+    fn drop(&mut self) {
+        if self.is_new && self.names.is_empty() {
+            let _ = fs::remove_dir(&self.path); // which takes an empty one alone
+        }
+    }
+}
+
+/// A folder for each of some items, by their names without the ending, and what stands behind them;
+/// equal ones get a number.
+pub fn folders(out: &Path, items: &[PathBuf], behind: &str) -> Vec<PathBuf> {
     let mut folders: Vec<PathBuf> = Vec::new();
     for item in items {
         let stem = item.file_stem().unwrap_or_default();
-        let stem = match stem.to_string_lossy() {
-            name if name.is_empty() || name == "-" => "input".into(),
-            name => name,
+        let name = match stem.to_string_lossy() {
+            stem if stem.is_empty() || stem == "-" => format!("input{behind}"),
+            stem if stem == "." || stem == ".." => format!("{stem}y4m{behind}"), // no folder above
+            stem => format!("{stem}{behind}"),
         };
-        let numbered = (2..).map(|n| out.join(format!("{stem}-{n}")));
-        let mut names = std::iter::once(out.join(&*stem)).chain(numbered);
+        let numbered = (2..).map(|n| out.join(format!("{name}-{n}")));
+        let mut names = std::iter::once(out.join(&name)).chain(numbered);
         folders.extend(names.find(|name| !folders.contains(name)));
     }
     folders
@@ -87,10 +101,21 @@ pub fn folders(out: &Path, items: &[PathBuf]) -> Vec<PathBuf> {
 
 #[test]
 fn names() {
-    let items = ["a/reel.y4m", "b/reel.y4m", "reel-2.y4m", "-", "reel"].map(PathBuf::from);
-    let want = ["reel", "reel-2", "reel-2-2", "input", "reel-3"];
-    assert_eq!(
-        folders(Path::new("out"), &items),
-        want.map(|name| Path::new("out").join(name))
-    );
+    let items = [
+        "a/reel.y4m",
+        "b/reel.y4m",
+        "reel-2.y4m",
+        "-",
+        "reel",
+        "...y4m",
+        "..ipt",
+    ];
+    let items = items.map(PathBuf::from);
+    let out = Path::new("out");
+    let want = [
+        "reel", "reel-2", "reel-2-2", "input", "reel-3", "..y4m", ".y4m",
+    ];
+    assert_eq!(folders(out, &items, ""), want.map(|name| out.join(name)));
+    let want = ["reel-frame7", "reel-frame7-2"].map(|name| out.join(name));
+    assert_eq!(folders(out, &items[..2], "-frame7"), want);
 }

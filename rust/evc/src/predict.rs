@@ -13,7 +13,7 @@ use crate::report::{Console, Outcome, Result};
 use crate::shell::quoted;
 use evc_inter::Flip;
 use std::io::Write;
-use std::path::PathBuf;
+use std::path::{Path, PathBuf};
 
 /// The ways to flip, by the words of the command line.
 pub const WAYS: [(&str, Flip); 2] = [
@@ -105,6 +105,16 @@ pub fn run(given: &Given, console: &mut Console) -> std::result::Result<(), Stri
     let clips = given.files();
     let size = given.size("--size")?;
     let frame = given.number("--frame", "the number of a frame, from 0 on")?;
+    let way = |clip: &&PathBuf| {
+        WAYS.iter()
+            .any(|(word, _)| clip.as_path() == Path::new(word))
+    };
+    if let Some(way) = clips.iter().find(way).filter(|way| !way.exists()) {
+        return Err(format!(
+            "{0} is no clip; is --flip={0} meant?",
+            way.display()
+        ));
+    }
     if size.is_some() && !clips.is_empty() {
         return Err("--size is for the built-in scene; a clip has its own".into());
     }
@@ -114,37 +124,32 @@ pub fn run(given: &Given, console: &mut Console) -> std::result::Result<(), Stri
     let asked = Asked {
         frame: frame.unwrap_or(1),
         flip: given.one_of("--flip", &WAYS)?,
-        trace: given.path("--trace"),
+        trace: given.output("--trace")?,
     };
     if asked.trace.is_some() && clips.len() > 1 {
         return Err("--trace is for one clip".into());
     }
-    let out = given.path("--out").unwrap_or("evc-out".into());
+    let out = given.output("--out")?.unwrap_or("evc-out".into());
     let files = Files::new(&clips);
-    let items = match clips.is_empty() {
-        true => vec![PathBuf::from("scene")],
-        false => clips.clone(),
+    if let Some(Err(failure)) = asked.trace.as_ref().map(|path| files.try_file(path)) {
+        console.items(&clips, &failure);
+        return Ok(());
+    }
+    let (items, behind) = match clips.is_empty() {
+        true => (vec![PathBuf::from("scene")], String::new()),
+        false => (clips.clone(), format!("-frame{}", asked.frame)),
     };
-    let folders = folders(&out, &items).into_iter();
-    let folders = folders.map(|path| Folder::new(&files, path));
-    let tried = folders.collect::<Result<Vec<_>>>();
-    let tried = tried.and_then(|folders| match &asked.trace {
-        Some(path) => files.try_file(path).map(|()| folders),
-        None => Ok(folders),
-    });
-    let mut folders = match tried {
-        Ok(folders) => folders,
-        Err(failure) => {
-            console.items(&items, &failure);
-            return Ok(());
-        }
-    };
-    for (path, folder) in items.iter().zip(&mut folders) {
-        let material = match clips.is_empty() {
-            true => scene(size.unwrap_or((416, 240))),
-            false => frames(path, asked.frame),
-        };
-        let outcome = material.and_then(|material| item(console, &files, folder, &asked, material));
+    let folders = folders(&out, &items, &behind).into_iter();
+    // All are tried before the work begins.
+    let folders: Vec<_> = folders.map(|path| Folder::new(&files, path)).collect();
+    for (path, folder) in items.iter().zip(folders) {
+        let outcome = folder.and_then(|mut folder| {
+            let material = match clips.is_empty() {
+                true => scene(size.unwrap_or((416, 240))),
+                false => frames(path, asked.frame),
+            };
+            item(console, &files, &mut folder, &asked, material?)
+        });
         console.item(
             &path.display().to_string(),
             outcome.unwrap_or_else(Outcome::from),

@@ -11,21 +11,37 @@ use crate::predict::WAYS;
 use crate::predicted::difference;
 use crate::report::{Console, Failure, Outcome, Result};
 use crate::y4m::{Clip, Header};
-use evc_inter::{EvcTraceRecord, Flip, PaddedPicture, Picture, Replay, TraceReader};
+use evc_inter::{EvcTraceRecord, Flip, PaddedPicture, Picture, Replay, TraceMotion, TraceReader};
 use evc_inter::{TRACE_HEADER_LEN, TRACE_RECORD_LEN};
 use std::fs::File;
-use std::io::Read;
+use std::io::{self, Read};
 use std::path::{Path, PathBuf};
 
 /// Units of the largest picture: no map of one picture is longer, and no trace without overlaps.
 const MOST_UNITS: usize = (8128 / 4) * (8128 / 4);
 
-/// A file, up to `most` bytes and one more.
+/// A file or standard input, up to `most` bytes and one more.
 fn bytes(path: &Path, most: usize) -> Result<Vec<u8>> {
     let mut bytes = Vec::new();
-    let read = File::open(path).and_then(|file| file.take(most as u64 + 1).read_to_end(&mut bytes));
-    read.map_err(|e| Failure::File(format!("{}: not read: {e}", path.display())))?;
+    let read = opened(path).and_then(|file| file.take(most as u64 + 1).read_to_end(&mut bytes));
+    read.map_err(|e| Failure::File(format!("not read: {e}")))?;
     Ok(bytes)
+}
+
+/// A file, or standard input by the name `-`.
+pub fn opened(path: &Path) -> io::Result<Box<dyn Read>> {
+    Ok(match path == Path::new("-") {
+        true => Box::new(io::stdin().lock()),
+        false => Box::new(File::open(path)?),
+    })
+}
+
+/// Says of which file a failure speaks, where that is not the item.
+fn of_file(path: &Path) -> impl FnOnce(Failure) -> Failure + '_ {
+    move |failure| match failure {
+        Failure::File(what) => Failure::File(format!("{}: {what}", path.display())),
+        refused => refused,
+    }
 }
 
 /// A file that may be a trace.
@@ -33,9 +49,8 @@ pub fn trace(path: &Path) -> Result<Vec<u8>> {
     let most = TRACE_HEADER_LEN + MOST_UNITS * TRACE_RECORD_LEN;
     let trace = bytes(path, most)?;
     if trace.len() > most {
-        let path = path.display();
         return Err(Failure::File(format!(
-            "{path}: longer than {most} bytes, the trace of the largest picture"
+            "longer than {most} bytes, the trace of the largest picture"
         )));
     }
     Ok(trace)
@@ -43,7 +58,7 @@ pub fn trace(path: &Path) -> Result<Vec<u8>> {
 
 /// A motion map of one picture; what is too short for it is refused by the call.
 pub fn motion(path: &Path) -> Result<Vec<i16>> {
-    let bytes = bytes(path, 2 * 4 * MOST_UNITS)?;
+    let bytes = bytes(path, 2 * 4 * MOST_UNITS).map_err(of_file(path))?;
     let pairs = bytes.chunks_exact(2);
     Ok(pairs
         .map(|pair| i16::from_le_bytes([pair[0], pair[1]]))
@@ -52,13 +67,19 @@ pub fn motion(path: &Path) -> Result<Vec<i16>> {
 
 /// A picture of a clip, with the clip's header.
 fn picture(path: &Path, frame: u64) -> Result<(Header, Picture)> {
-    let said = |failure| match failure {
-        Failure::File(what) => Failure::File(format!("{}: {what}", path.display())),
-        refused => refused,
-    };
-    let mut clip = Clip::open(path).map_err(said)?;
-    let picture = clip.frame(frame).map_err(said)?;
+    let mut clip = Clip::open(path).map_err(of_file(path))?;
+    let picture = clip.frame(frame).map_err(of_file(path))?;
     Ok((clip.header, picture))
+}
+
+/// How many of the first records are direct.
+fn direct(trace: &[u8], records: u64) -> u64 {
+    let Ok(reader) = TraceReader::new(trace) else {
+        return 0;
+    };
+    let finished = reader.take(records as usize).flatten();
+    let direct = finished.filter(|record| matches!(record.motion, TraceMotion::Direct { .. }));
+    direct.count() as u64
 }
 
 /// What a trace is replayed with.
@@ -130,7 +151,15 @@ impl Desk {
             }
         }
         folder.said(console);
-        let note = format!("{replay}{}", self.said_more(&trace, &replay));
+        let direct = direct(&trace, replay.finished);
+        let without_map = match (direct, &self.col_mv) {
+            (0, _) | (_, Some(_)) => String::new(),
+            (n, None) => format!(
+                "; {n} finished ones are direct and have zero vectors, for want of --motion"
+            ),
+        };
+        let more = self.said_more(&trace, &replay);
+        let note = format!("{replay}{more}{without_map}");
         let outcome = match (replay.result(), agrees) {
             (Ok(_), true) => Outcome::done(note),
             (Ok(_), false) => Outcome::disagrees(format!("{note}; NOT the picture beside it")),
@@ -145,6 +174,7 @@ impl Desk {
         let folder = folder.path.display().to_string();
         let outcome = outcome
             .fact("finished", replay.finished)
+            .fact("direct", direct)
             .fact("folder", &folder[..]);
         Ok(match self.beside {
             Some(_) => outcome.fact("equal", Json::Bool(agrees)),
@@ -222,20 +252,19 @@ pub fn run(given: &Given, console: &mut Console) -> std::result::Result<(), Stri
         .chain(&asked.motion)
         .chain(&asked.target);
     let files = Files::new(traces.iter().chain(others).chain(&asked.beside));
-    let out = given.path("--out").unwrap_or("evc-out".into());
-    let folders = folders(&out, &traces).into_iter();
-    let folders = folders
-        .map(|path| Folder::new(&files, path))
-        .collect::<Result<Vec<_>>>();
-    let (mut folders, desk) = match folders.and_then(|folders| Ok((folders, Desk::new(&asked)?))) {
-        Ok(ready) => ready,
+    let out = given.output("--out")?.unwrap_or("evc-out".into());
+    let folders = folders(&out, &traces, "").into_iter();
+    // All are tried before the work begins.
+    let folders: Vec<_> = folders.map(|path| Folder::new(&files, path)).collect();
+    let desk = match Desk::new(&asked) {
+        Ok(desk) => desk,
         Err(failure) => {
             console.items(&traces, &failure);
             return Ok(());
         }
     };
-    for (path, folder) in traces.iter().zip(&mut folders) {
-        let outcome = desk.item(console, path, folder);
+    for (path, folder) in traces.iter().zip(folders) {
+        let outcome = folder.and_then(|mut folder| desk.item(console, path, &mut folder));
         console.item(
             &path.display().to_string(),
             outcome.unwrap_or_else(Outcome::from),

@@ -117,6 +117,8 @@ impl From<Failure> for Outcome {
 pub struct Console {
     json: bool,
     worst: Exit,
+    /// Nothing more can be said on standard output.
+    pub is_closed: bool,
 }
 
 impl Console {
@@ -124,6 +126,7 @@ impl Console {
         Console {
             json,
             worst: Exit::Done,
+            is_closed: false,
         }
     }
 
@@ -134,14 +137,17 @@ impl Console {
         }
     }
 
-    /// That nobody reads on does not end the work; that a line could not be kept is an error.
+    /// That nobody reads on does not end the work; that a line could not be kept is an error, told once.
     fn out(&mut self, line: impl Display) {
-        match writeln!(io::stdout(), "{line}") {
-            Err(e) if e.kind() != io::ErrorKind::BrokenPipe => {
+        if self.is_closed {
+            return;
+        }
+        if let Err(e) = writeln!(io::stdout(), "{line}") {
+            self.is_closed = true;
+            if e.kind() != io::ErrorKind::BrokenPipe {
                 let _ = writeln!(io::stderr(), "evc: standard output: {e}");
                 self.worst = self.worst.max(Exit::File);
             }
-            _ => {}
         }
     }
 
@@ -169,9 +175,13 @@ impl Console {
             fields.extend(facts.map(|(name, value)| (name.into(), value)));
             self.out(Json::Object(fields));
         } else if exit == Exit::Done {
-            self.out(format!("{item}: {note}"));
+            self.out(printable(&format!("{item}: {note}")));
         } else {
-            let _ = writeln!(io::stderr(), "evc: {item}: {note}");
+            let _ = writeln!(
+                io::stderr(),
+                "evc: {}",
+                printable(&format!("{item}: {note}"))
+            );
         }
     }
 
@@ -185,4 +195,27 @@ impl Console {
     pub fn exit(&self) -> Exit {
         self.worst
     }
+}
+
+/// Without what a terminal would take for more than a sign: names of files may hold anything.
+fn printable(text: &str) -> String {
+    let shown = |c: char| if c.is_control() { '\u{fffd}' } else { c };
+    text.chars().map(shown).collect()
+}
+
+/// `1 record`, `2 records`.
+pub fn counted(n: u64, what: &str) -> String {
+    match n {
+        1 => format!("1 {what}"),
+        n => format!("{n} {what}s"),
+    }
+}
+
+#[test]
+fn as_text() {
+    assert_eq!(printable("a\x1b[31m\nb é"), "a\u{fffd}[31m\u{fffd}b é");
+    assert_eq!(
+        [0, 1, 2].map(|n| counted(n, "frame")),
+        ["0 frames", "1 frame", "2 frames"]
+    );
 }

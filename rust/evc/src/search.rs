@@ -29,9 +29,21 @@ pub struct Search<'a> {
 }
 
 /// What a block and a vector cost beside the differences of their samples: without a price all blocks
-/// would be of 4 by 4.
+/// would be of 4 by 4, and of vectors that do equally well any would be taken, not the shortest.
 const BLOCK_PRICE: u64 = 80;
 const VECTOR_PRICE: u64 = 60;
+
+/// Direct vectors are not written down, and cost nothing.
+fn price(coded: &Coded) -> u64 {
+    if coded.kind == Kind::Direct {
+        return 0;
+    }
+    let length = |mv: EvcMv| u64::from(mv.x.unsigned_abs()) + u64::from(mv.y.unsigned_abs());
+    coded
+        .vectors()
+        .map(|mv| VECTOR_PRICE + length(mv) / 8)
+        .sum()
+}
 
 const SIDES: [u32; 5] = [4, 8, 16, 32, 64];
 
@@ -189,12 +201,7 @@ impl<'a> Square<'a> {
         let coded = Coded { block, kind, mv };
         let predicted = coded.call(*poc).predict(pictures, &mut self.predictor);
         let prediction = predicted.map_err(Failure::at(coded))?;
-        let vectors = if kind == Kind::Direct {
-            0
-        } else {
-            coded.vectors().count() as u64
-        };
-        let mut cost = BLOCK_PRICE + VECTOR_PRICE * vectors;
+        let mut cost = BLOCK_PRICE + price(&coded);
         for (c, plane) in self.search.picture.planes.iter().enumerate() {
             let half = if c == 0 { 1 } else { 2 };
             let [x, y, w] = [block.x, block.y, block.w].map(|n| (n / half) as usize);

@@ -28,17 +28,20 @@ impl Header {
         Header { sides, tags }
     }
 
-    /// A header's line, without its end.
+    /// A header's line.
     fn read(line: &str, path: &Path) -> Result<Header> {
         let bad = |what: &str| Failure::File(format!("{what}; {}", taken_copy(path, "")));
         let Some(tags) = line.strip_prefix(MAGIC).filter(|tags| {
-            tags.is_empty() || tags.starts_with([' ', '\r']) // not YUV4MPEG21
+            tags.is_empty() || tags.starts_with([' ', '\r', '\n']) // not YUV4MPEG21
         }) else {
             return Err(bad(&format!(
-                "not a y4m clip: it does not begin with {MAGIC}"
+                "not a y4m clip: it does not begin with {MAGIC}; if ffmpeg can read it"
             )));
         };
-        if line.ends_with('\r') {
+        let Some(tags) = tags.strip_suffix('\n') else {
+            return Err(Failure::File("its header's line has no end".into()));
+        };
+        if tags.ends_with('\r') {
             return Err(Failure::File(
                 "its header ends with CR LF: the clip was changed as if it were text, by a copy in text mode say, \
                  and its samples with it; copy it again, in binary"
@@ -145,7 +148,10 @@ impl Clip {
     }
 
     fn new(path: &Path, mut file: Box<dyn BufRead>) -> Result<Clip> {
-        let header = Header::read(&line(&mut file)?.unwrap_or_default(), path)?;
+        let Some(first) = line(&mut file)? else {
+            return Err(Failure::File("it is empty".into()));
+        };
+        let header = Header::read(&first, path)?;
         let path = path.into();
         Ok(Clip {
             path,
@@ -179,7 +185,9 @@ impl Clip {
         let n = self.frames;
         let tags = frame
             .strip_prefix("FRAME")
-            .filter(|tags| (tags.is_empty() || tags.starts_with(' ')) && !tags.ends_with('\r'));
+            .and_then(|tags| tags.strip_suffix('\n'));
+        let tags =
+            tags.filter(|tags| (tags.is_empty() || tags.starts_with(' ')) && !tags.ends_with('\r'));
         let Some(tags) = tags else {
             return Err(Failure::File(format!(
                 "frame {n} does not begin with the line FRAME: the clip is damaged or no clip"
@@ -223,20 +231,15 @@ impl Clip {
     }
 }
 
-/// A line of a clip without its end; none at its end. What goes on and on is no line.
+/// A line of a clip, with its end if it has one within 1024 bytes; none at the end of the clip.
 fn line(file: &mut impl BufRead) -> Result<Option<String>> {
     let mut bytes = Vec::new();
     let limited = &mut file.take(1024);
     limited
         .read_until(b'\n', &mut bytes)
         .map_err(|e| Failure::File(format!("not read: {e}")))?;
-    if bytes.is_empty() {
-        return Ok(None);
-    }
-    if bytes.pop() != Some(b'\n') {
-        bytes.clear();
-    }
-    Ok(Some(String::from_utf8(bytes).unwrap_or_default()))
+    let line = String::from_utf8_lossy(&bytes).into_owned();
+    Ok(Some(line).filter(|line| !line.is_empty()))
 }
 
 /// Writes a picture behind a header.
@@ -312,7 +315,7 @@ mod tests {
             clip.header
         );
         let made = Header::new((12, 8));
-        let line = format!("YUV4MPEG2 {}", made.tags);
+        let line = format!("YUV4MPEG2 {}\n", made.tags);
         assert_eq!(Header::read(&line, Path::new("made")), Ok(made));
     }
 
@@ -321,9 +324,10 @@ mod tests {
         let header = "YUV4MPEG2 W12 H8 C420p10";
         let ffmpeg = "ffmpeg -i 'reel 7.mov' -pix_fmt yuv420p10le -strict -1 'reel 7-10bit.y4m'";
         for (bytes, want) in [
-            (vec![], "not a y4m clip"),
+            (vec![], "it is empty"),
             (vec![0; 5000], ffmpeg),
-            (b"YUV4MPEG2 W12 H8 C420p10".to_vec(), "not a y4m clip"),
+            (b"YUV4MPEG2 W12 H8 C420p10".to_vec(), "has no end"),
+            ([&b"YUV4MPEG2 "[..], &[b'X'; 5000]].concat(), "has no end"),
             (bytes("P5 12 8 1023", 144), "not a y4m clip"),
             (bytes("YUV4MPEG21 W12 H8 C420p10", 144), "not a y4m clip"),
             (bytes("YUV4MPEG2 W12 H8 C420p10\r", 144), "ends with CR LF"),

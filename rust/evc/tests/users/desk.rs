@@ -7,7 +7,7 @@ use crate::trace;
 
 const SIDES: (usize, usize) = (64, 48);
 
-/// A folder with a clip, its frame 2 predicted into `out/reel`, and the trace of that.
+/// A folder with a clip, its frame 2 predicted into `out/reel-frame2`, and the trace of that.
 struct Desk {
     folder: Folder,
     clip: Clip,
@@ -18,7 +18,7 @@ struct Desk {
 
 /// The references of frame 2 as the clip has them.
 const FROM_CLIP: &str = "--ref0 reel.y4m --frame0 1 --ref1 reel.y4m --frame1 3 \
-                         --motion out/reel/reference1.motion";
+                         --motion out/reel-frame2/reference1.motion";
 
 impl Desk {
     fn new() -> Desk {
@@ -37,7 +37,7 @@ impl Desk {
     }
 
     fn predicted(&self) -> Clip {
-        self.folder.clip("out/reel/predicted.y4m")
+        self.folder.clip("out/reel-frame2/predicted.y4m")
     }
 }
 
@@ -93,7 +93,7 @@ fn the_line_to_replay_with_blanks() {
     let said = Run::of(&mut command).done();
     folder.shell(said.behind("to replay it: ")).done();
     let replayed = folder.read("evc-out/kept for $5/replayed.y4m");
-    assert!(replayed == folder.read("evc-out/reel 7/predicted.y4m"));
+    assert!(replayed == folder.read("evc-out/reel 7-frame1/predicted.y4m"));
 }
 
 /// The references are frames of the clip itself.
@@ -112,13 +112,22 @@ fn from_the_clip() {
     for (given, other) in [
         ("--frame0 1", "--frame0 0"),
         ("--frame1 3", "--frame1 4"),
-        ("--motion out/reel/reference1.motion", ""),
+        ("--motion out/reel-frame2/reference1.motion", ""),
     ] {
         let others = FROM_CLIP.replace(given, other);
-        desk.folder.evc(&format!("replay kept.ipt {others}")).done();
+        let run = desk.folder.evc(&format!("replay kept.ipt {others}")).done();
         let replayed = desk.folder.read("evc-out/kept/replayed.y4m");
         assert!(replayed != desk.predicted().bytes(), "{others}");
+        // That no map was given is said, since nothing is refused.
+        let direct = trace::direct(&desk.trace);
+        let said = format!("; {direct} finished ones are direct and have zero vectors");
+        assert_eq!(run.out.contains(&said), other.is_empty(), "{run:?}");
     }
+
+    // A trace from a pipe.
+    let mut command = desk.folder.command(&format!("replay - {FROM_CLIP}"));
+    Run::fed(&mut command, &desk.trace).done();
+    assert!(desk.folder.read("evc-out/input/replayed.y4m") == desk.predicted().bytes());
 
     let none = FROM_CLIP.replace("--frame1 3", "--frame1 5");
     let run = desk.folder.evc(&format!("replay kept.ipt {none}")).exits(3);
@@ -135,7 +144,7 @@ fn damaged_record() {
         trace,
         ..
     } = &Desk::new();
-    let predicted = folder.clip("out/reel/predicted.y4m");
+    let predicted = folder.clip("out/reel-frame2/predicted.y4m");
     let records = trace::records(trace);
     folder.write("target.y4m", clip.only(0).bytes());
     for k in [0, 1, records / 2, records - 1] {
@@ -234,7 +243,7 @@ fn references_of_another_size() {
     }
     // A map of another picture.
     folder.write("short.motion", [0; 8]);
-    let line = FROM_CLIP.replace("out/reel/reference1.motion", "short.motion");
+    let line = FROM_CLIP.replace("out/reel-frame2/reference1.motion", "short.motion");
     let run = folder.evc(&format!("replay kept.ipt {line}")).exits(1);
     assert!(run.note().contains("refused (4): "), "{run:?}");
     assert!(run.note().contains("motion map"), "{run:?}");
@@ -266,7 +275,7 @@ fn several_traces() {
         assert!(folder.names(at).contains(&"replayed.y4m".into()));
     }
     assert_eq!(lines[0].value("place"), Value::Null);
-    assert!(lines[2].text("note").contains("no-such.ipt: not read"));
+    assert!(lines[2].text("note").starts_with("not read: "));
     let [first, last] =
         ["kept", "kept-2"].map(|item| folder.read(&format!("evc-out/{item}/replayed.y4m")));
     assert!(first == last);

@@ -34,7 +34,7 @@ fn taken() {
     let run = folder.evc("predict test.y4m").done();
     assert!(run.out.ends_with("; all agree\n"), "{run:?}");
     // It reads what is written.
-    for name in folder.names("evc-out/test") {
+    for name in folder.names("evc-out/test-frame1") {
         if name.ends_with(".y4m") || name.ends_with(".png") {
             let mut ffmpeg = Command::new("ffmpeg");
             ffmpeg.args([
@@ -44,7 +44,7 @@ fn taken() {
                 "crccheck+bitstream+explode",
                 "-i",
             ]);
-            ffmpeg.arg(folder.path(&format!("evc-out/test/{name}")));
+            ffmpeg.arg(folder.path(&format!("evc-out/test-frame1/{name}")));
             let run = Run::of(ffmpeg.args(["-f", "null", "-"]));
             assert!(run.err.is_empty(), "{name}: {run:?}");
             run.exits(0);

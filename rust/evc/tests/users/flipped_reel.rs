@@ -56,7 +56,7 @@ fn clip_turned_with_its_frames_tags() {
 fn flipped_reel() {
     let folder = Folder::new();
     folder.write("reel.y4m", Clip::moving((64, 48), (5, -3), 3).bytes());
-    let out = "out/reel";
+    let out = "out/reel-frame1";
     for (way, back) in WAYS
         .into_iter()
         .zip(["--turn-back", "--turn-back=top-bottom"])
@@ -116,7 +116,7 @@ fn flipped_without_a_map() {
     let refs = "--ref0 reel.y4m --ref1 reel.y4m --frame1 2 --out straight";
     folder.evc(&format!("replay kept.ipt {refs}")).done();
     let straight = folder.read("straight/kept/replayed.y4m");
-    assert!(straight != folder.read("evc-out/reel/predicted.y4m"));
+    assert!(straight != folder.read("evc-out/reel-frame1/predicted.y4m"));
 
     folder.evc("flip reel.y4m --out f.y4m").done();
     let run = folder.evc("flip-trace kept.ipt --out flipped.ipt").done();

@@ -41,8 +41,12 @@ fn over_an_input() {
     // One of several, and the other clips are as they were too.
     folder.write("other.y4m", clip.bytes());
     folder.evc("predict reel.y4m other.y4m --out there").done();
-    fs::remove_file(folder.path("there/other/true.y4m")).unwrap();
-    fs::hard_link(folder.path("reel.y4m"), folder.path("there/other/true.y4m")).unwrap();
+    fs::remove_file(folder.path("there/other-frame1/true.y4m")).unwrap();
+    fs::hard_link(
+        folder.path("reel.y4m"),
+        folder.path("there/other-frame1/true.y4m"),
+    )
+    .unwrap();
     is_refused(
         folder,
         clip,
@@ -68,11 +72,11 @@ fn over_what_replay_reads() {
     fs::create_dir_all(folder.path("there/kept")).unwrap();
     let replayed = folder.path("there/kept/replayed.y4m");
     fs::hard_link(folder.path("reel.y4m"), replayed).unwrap();
-    let [trace, map] = ["kept.ipt", "evc-out/reel/reference1.motion"];
+    let [trace, map] = ["kept.ipt", "evc-out/reel-frame1/reference1.motion"];
     let maps = folder.read(map);
     for refs in [
-        "--ref0 reel.y4m --ref1 evc-out/reel/true.y4m",
-        "--ref1 reel.y4m --ref0 evc-out/reel/true.y4m",
+        "--ref0 reel.y4m --ref1 evc-out/reel-frame1/true.y4m",
+        "--ref1 reel.y4m --ref0 evc-out/reel-frame1/true.y4m",
     ] {
         let line = format!("replay {trace} {refs} --motion {map} --out there");
         is_refused(folder, clip, folder.evc(&line));
@@ -109,8 +113,10 @@ fn before_any_work() {
 #[test]
 fn folder_without_permission() {
     let (folder, _) = &reel();
-    fs::create_dir(folder.path("closed")).unwrap();
-    fs::set_permissions(folder.path("closed"), Permissions::from_mode(0o555)).unwrap();
+    for name in ["closed", "there/input-frame1"] {
+        fs::create_dir_all(folder.path(name)).unwrap();
+        fs::set_permissions(folder.path(name), Permissions::from_mode(0o555)).unwrap();
+    }
     let is_root = fs::metadata(folder.path("closed")).unwrap().uid() == 0;
     let command = |line| {
         let mut command = folder.command(line);
@@ -123,12 +129,16 @@ fn folder_without_permission() {
         println!("skipped: as root, and nobody cannot start the tool: {e}");
         return;
     }
-    for line in ["predict - --out closed", "flip - --out closed/turned.y4m"] {
+    for line in [
+        "predict - --out closed",
+        "predict - --out there",
+        "flip - --out closed/turned.y4m",
+    ] {
         let run = Run::unfed(&mut command(line)).exits(3);
         let said = "not written: Permission denied";
-        assert!(run.note().contains(said), "{run:?}");
+        assert!(run.note().contains(said), "{line}: {run:?}");
     }
-    assert!(folder.names("closed").is_empty());
+    assert!(folder.names("closed").is_empty() && folder.names("there/input-frame1").is_empty());
 }
 
 /// What was there before, however long, is replaced; beside it nothing is left.
@@ -137,13 +147,13 @@ fn replaced_whole() {
     let (folder, clip) = &reel();
     folder.write("turned.y4m", vec![b'x'; 100_000]);
     folder.write("kept.ipt", vec![b'x'; 100_000]);
-    folder.write("evc-out/reel/predicted.png", vec![b'x'; 100_000]);
+    folder.write("evc-out/reel-frame1/predicted.png", vec![b'x'; 100_000]);
     folder.evc("flip reel.y4m --out turned.y4m").done();
     assert!(folder.clip("turned.y4m").frames == clip.turned("left-right").frames);
     folder.evc("predict reel.y4m --trace kept.ipt").done();
     let trace = folder.read("kept.ipt");
     assert!(trace.starts_with(b"IPT\x01\0") && trace.len() % 22 == 13);
-    let png = folder.read("evc-out/reel/predicted.png");
+    let png = folder.read("evc-out/reel-frame1/predicted.png");
     assert!(png.starts_with(b"\x89PNG") && png.len() < 100_000);
     assert_eq!(
         folder.names("."),
@@ -203,7 +213,7 @@ fn over_a_pipe() {
 #[test]
 fn trace_over_a_picture() {
     let (folder, _) = &reel();
-    let line = "predict reel.y4m --trace evc-out/reel/predicted.y4m";
+    let line = "predict reel.y4m --trace evc-out/reel-frame1/predicted.y4m";
     let run = folder.evc(line);
     assert_ne!(run.code, Some(0), "{run:?}");
 }

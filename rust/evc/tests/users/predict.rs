@@ -153,11 +153,11 @@ fn the_same_again() {
             .done();
     }
     assert_eq!(folder.read("first.ipt"), folder.read("second.ipt"));
-    let names = folder.names("first/reel");
-    assert_eq!(folder.names("second/reel"), names);
+    let names = folder.names("first/reel-frame1");
+    assert_eq!(folder.names("second/reel-frame1"), names);
     for name in names {
         let [first, second] =
-            ["first", "second"].map(|out| folder.read(&format!("{out}/reel/{name}")));
+            ["first", "second"].map(|out| folder.read(&format!("{out}/reel-frame1/{name}")));
         assert!(first == second, "{name}");
     }
 }
@@ -171,10 +171,11 @@ fn frames_of_a_clip() {
     for (n, from) in [(0, "1 and 2"), (2, "1 and 3"), (4, "2 and 3")] {
         let run = folder.evc(&format!("predict reel.y4m --frame {n}")).done();
         all_agree(&run);
-        whole(&folder, &run, "evc-out/reel", (64, 48));
+        let out = format!("evc-out/reel-frame{n}");
+        whole(&folder, &run, &out, (64, 48));
         let said = run.behind(&format!("64 by 48, frame {n} from {from}: "));
         let [predicted, picture, difference] = ["predicted", "true", "difference"]
-            .map(|name| folder.clip(&format!("evc-out/reel/{name}.y4m")));
+            .map(|name| folder.clip(&format!("{out}/{name}.y4m")));
         assert_eq!(said, predicted.psnr(&picture));
         let luma = said.split(' ').nth(2).unwrap().parse::<f64>().unwrap();
         assert!(luma > 40.0, "frame {n}: {said}");
@@ -193,7 +194,7 @@ fn short_clips() {
     for (n, from) in [(0, "1 and 2"), (1, "0 and 2"), (2, "0 and 1")] {
         let run = folder.evc(&format!("predict three.y4m --frame {n}")).done();
         assert!(run.out.contains(&format!("frame {n} from {from}")));
-        assert!(folder.clip("evc-out/three/true.y4m") == clip.only(n));
+        assert!(folder.clip(&format!("evc-out/three-frame{n}/true.y4m")) == clip.only(n));
     }
     let none = folder.evc("predict three.y4m --frame 3").exits(3);
     let said = "evc: three.y4m: there is no frame 3: the clip has frames 0 to 2";
@@ -221,11 +222,11 @@ fn tags_are_carried_over() {
     folder
         .evc("predict reel.y4m --trace kept.ipt --flip=top-bottom")
         .done();
-    let names = folder.names("evc-out/reel");
+    let names = folder.names("evc-out/reel-frame1");
     let clips: Vec<_> = names.iter().filter(|name| name.ends_with(".y4m")).collect();
     assert_eq!(clips.len(), 8, "{names:?}");
     for name in clips {
-        let tags = folder.clip(&format!("evc-out/reel/{name}")).tags;
+        let tags = folder.clip(&format!("evc-out/reel-frame1/{name}")).tags;
         match name.starts_with("flipped") {
             true => assert_eq!(tags, TAGS.replace("It", "Ib"), "{name}"),
             false => assert_eq!(tags, TAGS, "{name}"),
@@ -237,7 +238,7 @@ fn tags_are_carried_over() {
         ("reference1", "flipped-reference1"),
     ] {
         let [straight, flipped] =
-            [straight, flipped].map(|name| folder.clip(&format!("evc-out/reel/{name}.y4m")));
+            [straight, flipped].map(|name| folder.clip(&format!("evc-out/reel-frame1/{name}.y4m")));
         assert!(flipped.frames == straight.turned("top-bottom").frames);
         assert!(flipped.frames != straight.frames);
     }
@@ -252,7 +253,7 @@ fn clip_from_a_pipe() {
     let run = Run::fed(&mut folder.command("predict - --frame 2"), &clip.bytes()).done();
     assert!(run.out.contains("\n-: frame 2 from 1 and 3 predicted"));
     let [from_file, from_pipe] =
-        ["reel", "input"].map(|item| folder.read(&format!("evc-out/{item}/predicted.y4m")));
+        ["reel", "input"].map(|item| folder.read(&format!("evc-out/{item}-frame2/predicted.y4m")));
     assert!(from_file == from_pipe);
 }
 
@@ -265,9 +266,9 @@ fn lines_of_json() {
     let line = folder.evc("predict reel.y4m --json").done().json_line();
     assert_eq!(line.text("item"), "reel.y4m");
     assert_eq!((line.number("code"), line.number("frame")), (0.0, 1.0));
-    assert_eq!(line.text("folder"), "evc-out/reel");
+    assert_eq!(line.text("folder"), "evc-out/reel-frame1");
     let [predicted, picture] =
-        ["predicted", "true"].map(|name| folder.clip(&format!("evc-out/reel/{name}.y4m")));
+        ["predicted", "true"].map(|name| folder.clip(&format!("evc-out/reel-frame1/{name}.y4m")));
     let psnr = ["psnr_y", "psnr_u", "psnr_v"].map(|name| line.number(name));
     let [y, u, v] = psnr;
     let said = format!("PSNR Y {y:.2} dB, U {u:.2} dB, V {v:.2} dB");

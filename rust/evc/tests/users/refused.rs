@@ -53,7 +53,12 @@ fn told_apart() {
             "not a y4m clip",
             true,
         ),
-        (vec![], "not a y4m clip", true),
+        (vec![], "it is empty", false),
+        (
+            b"YUV4MPEG2 W32 H16 C420p10".to_vec(),
+            "its header's line has no end",
+            false,
+        ),
     ] {
         folder.write("reel.y4m", &bytes);
         // Whether it is predicted or turned.
@@ -71,7 +76,7 @@ fn told_apart() {
         assert!(line.text("note").contains(said), "{line:?}");
     }
     assert_eq!(folder.names("."), ["evc-out", "reel.y4m"]);
-    assert!(folder.names("evc-out/reel").is_empty());
+    assert!(folder.names("evc-out").is_empty()); // no folder is left for nothing
     let run = folder.evc("predict no-such.y4m").exits(3);
     assert!(run.note().contains("no-such.y4m: not read"), "{run:?}");
     let run = folder.evc("predict evc-out").exits(3);
@@ -147,8 +152,8 @@ fn several_clips() {
         let at = lines[k].text("folder");
         assert!(folder.names(&at).contains(&"predicted.y4m".into()), "{at}");
     }
-    assert_eq!(lines[0].text("folder"), "evc-out/reel");
-    assert_eq!(lines[4].text("folder"), "evc-out/reel-2");
+    assert_eq!(lines[0].text("folder"), "evc-out/reel-frame1");
+    assert_eq!(lines[4].text("folder"), "evc-out/reel-frame1-2");
 
     // In sentences: what is done on standard output, the rest on standard error.
     let run = folder
@@ -193,4 +198,30 @@ fn none_of_several() {
             assert_eq!(line.value("code"), Value::Null);
         }
     }
+}
+
+/// An item that has no room for its pictures does not stop the others.
+#[test]
+fn folder_of_one_item() {
+    let folder = Folder::new();
+    for name in ["a.y4m", "b.y4m", "c.y4m"] {
+        folder.write(name, good().bytes());
+    }
+    folder.write("evc-out/b-frame1", "no folder");
+    let run = folder.evc("predict --json a.y4m b.y4m c.y4m").exits(3);
+    let codes: Vec<_> = run.json().iter().map(|line| line.value("code")).collect();
+    let done = Value::Number(0.0);
+    assert_eq!(codes, [done.clone(), Value::Null, done]);
+}
+
+/// A clip of whatever name has a folder inside the one that was asked for.
+#[test]
+fn folder_inside() {
+    let folder = Folder::new();
+    for name in ["...y4m", "..y4m"] {
+        folder.write(name, good().bytes());
+    }
+    folder.evc("predict ...y4m ..y4m --out there/out").done();
+    assert_eq!(folder.names("there"), ["out"]);
+    assert_eq!(folder.names("there/out").len(), 2);
 }

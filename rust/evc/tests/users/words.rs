@@ -99,6 +99,10 @@ fn words_that_make_no_sense() {
             "--flip needs left-right or top-bottom",
         ),
         (
+            "predict reel.y4m --flip top-bottom",
+            "top-bottom is no clip; is --flip=top-bottom meant?",
+        ),
+        (
             "predict a.y4m b.y4m --trace kept.ipt",
             "--trace is for one clip",
         ),
@@ -114,7 +118,11 @@ fn words_that_make_no_sense() {
             "--turn-back is for",
         ),
         ("flip reel.y4m", "--out is needed"),
-        ("flip --out turned.y4m", "one file"),
+        ("flip --out turned.y4m", "which file is to be turned?"),
+        ("flip a.y4m --out -", "--out needs a name"),
+        ("predict --out=", "--out needs a name"),
+        ("predict --trace=", "--trace needs a name"),
+        ("man page", "takes nothing, not 'page'"),
         ("flip a.y4m b.y4m --out turned.y4m", "one file"),
         (
             "flip a.y4m --out b.y4m --left-right --top-bottom",
@@ -145,7 +153,7 @@ fn as_people_type_them() {
     for name in ["-reel", "--odd"] {
         let said = format!("\n{name}.y4m: frame 2 from 0 and 1 predicted");
         assert!(run.out.contains(&said), "{run:?}");
-        assert!(folder.clip(&format!("there/{name}/true.y4m")) == clip.only(2));
+        assert!(folder.clip(&format!("there/{name}-frame2/true.y4m")) == clip.only(2));
     }
     folder.evc("predict -reel.y4m").exits(2);
     let run = folder.evc("predict --size=64x48").done();
@@ -165,7 +173,9 @@ fn nobody_reads_on() {
     drop(child.stdout.take());
     Run::from(child.wait_with_output().unwrap()).done();
     assert_eq!(folder.names("evc-out/scene").len(), 13);
-    for line in ["--help", "predict --help", "man"] {
+    // The camera has nothing to do but to tell, so it ends too, though these files do not.
+    let endless = "camera --size 4x4 /dev/zero /dev/zero";
+    for line in ["--help", "predict --help", "man", endless] {
         let mut command = folder.command(line);
         let mut child = command
             .stdout(Stdio::piped())
