@@ -308,7 +308,7 @@ fn man() -> String {
         let _ = write!(man, ".TP\n.B {number}\n{what}\n");
     }
     man.push_str(
-        ".SH FILES\nA file is written as .NAME.PID.part first, and renamed when it is whole. Only a run that was killed \
+        ".SH FILES\nA file is written as .evc.PID.part first, beside its own name, and renamed when it is whole. Only a run that was killed \
          by force leaves one, which may be deleted.\n.SH SEE ALSO\nThe calls for C and C++ are declared and described in evc_inter.h; putting them into a \
          decoder, from Rust too, is in INTEGRATION.md of the installed documents (share/doc/evc_inter).\n",
     );

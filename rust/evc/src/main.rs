@@ -28,7 +28,7 @@ mod turns;
 mod y4m;
 
 use args::Given;
-use commands::{command, COMMANDS};
+use commands::{command, Command, COMMANDS};
 use report::{Console, Exit};
 use std::ffi::OsString;
 use std::io::{self, Write};
@@ -41,6 +41,13 @@ fn page(text: &str) -> Result<Exit, String> {
     Ok(console.exit())
 }
 
+fn known(name: &str) -> Result<&'static Command, String> {
+    command(name).ok_or_else(|| {
+        let names: Vec<_> = COMMANDS.iter().map(|command| command.name).collect();
+        format!("no such command: {name}; there are {}", names.join(", "))
+    })
+}
+
 /// The run's end, or why the words make no sense.
 fn run(words: Vec<OsString>) -> Result<Exit, String> {
     let mut words = words.into_iter();
@@ -51,17 +58,13 @@ fn run(words: Vec<OsString>) -> Result<Exit, String> {
     let words: Vec<_> = words.collect();
     let command = match &name[..] {
         "-h" | "--help" | "help" => {
-            let asked = words.first().map(|word| word.to_string_lossy());
-            return page(&match asked.and_then(|name| command(&name)) {
-                Some(command) => command.help(),
-                None => commands::help(),
-            });
+            let Some(asked) = words.first().map(|word| word.to_string_lossy()) else {
+                return page(&commands::help());
+            };
+            return page(&known(&asked)?.help());
         }
         "-V" | "--version" => return page(&commands::version()),
-        name => command(name).ok_or_else(|| {
-            let names: Vec<_> = COMMANDS.iter().map(|command| command.name).collect();
-            format!("no such command: {name}; there are {}", names.join(", "))
-        })?,
+        name => known(name)?,
     };
     let about = |said: String| format!("{name}: {said}; see evc {name} --help");
     let Some(given) = Given::read(command, words).map_err(about)? else {

@@ -61,8 +61,7 @@ struct Temporary {
 
 impl Temporary {
     fn new(beside: &Path) -> io::Result<(Temporary, File)> {
-        let name = beside.file_name().unwrap_or_default().to_string_lossy();
-        let path = beside.with_file_name(format!(".{name}.{}.part", std::process::id()));
+        let path = beside.with_file_name(format!(".evc.{}.part", std::process::id()));
         let name = CString::new(path.as_os_str().as_bytes())?.into_raw();
         UNFINISHED.store(name, SeqCst);
         let temporary = Temporary { path, name };

@@ -131,14 +131,14 @@ pub fn run(given: &Given, console: &mut Console) -> std::result::Result<(), Stri
     }
     let out = given.output("--out")?.unwrap_or("evc-out".into());
     let files = Files::new(&clips);
-    if let Some(Err(failure)) = asked.trace.as_ref().map(|path| files.try_file(path)) {
-        console.items(&clips, &failure);
-        return Ok(());
-    }
     let (items, behind) = match clips.is_empty() {
         true => (vec![PathBuf::from("scene")], String::new()),
         false => (clips.clone(), format!("-frame{}", asked.frame)),
     };
+    if let Some(Err(failure)) = asked.trace.as_ref().map(|path| files.try_file(path)) {
+        console.items(&items, &failure);
+        return Ok(());
+    }
     let folders = folders(&out, &items, &behind).into_iter();
     // All are tried before the work begins.
     let folders: Vec<_> = folders.map(|path| Folder::new(&files, path)).collect();

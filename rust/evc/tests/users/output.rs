@@ -88,7 +88,7 @@ fn over_what_replay_reads() {
     assert!(folder.read(map) == maps);
 }
 
-/// Whether it can be written is found out before the clip is read.
+/// Whether it can be written is found out before the clip is read, or the scene is made.
 #[test]
 fn before_any_work() {
     let (folder, _) = &reel();
@@ -99,6 +99,8 @@ fn before_any_work() {
         "predict - --out file/below",
         "predict - --trace folder",
         "predict - --trace no-such/kept.ipt",
+        "predict --out file",
+        "predict --trace no-such/kept.ipt",
         "flip - --out folder",
         "flip - --out no-such/turned.y4m",
     ] {

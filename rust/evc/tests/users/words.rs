@@ -71,6 +71,7 @@ fn words_that_make_no_sense() {
     let folder = Folder::new();
     for (line, said) in [
         ("predicts", "no such command: predicts"),
+        ("help predicts", "no such command: predicts"),
         ("--size 64x48", "no such command: --size"),
         ("predict --sizes 64x48", "no such option: --sizes"),
         ("predict -x", "no such option: -x"),
