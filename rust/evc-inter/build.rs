@@ -5,8 +5,8 @@ use std::time::SystemTime;
 use std::{env, fs};
 
 const ARCHIVE: &str = "libevc_inter.a";
+const VARIABLE: &str = "EVC_INTER_ARCHIVE_DIR";
 const MAKE: &str = "run `rt staticlib evc_inter` at the root of the repository";
-const ROOT: &str = concat!(env!("CARGO_MANIFEST_DIR"), "/../..");
 
 /// What the archive is made for, as Cargo names it.
 const MADE_FOR: [(&str, &str); 3] = [
@@ -16,7 +16,7 @@ const MADE_FOR: [(&str, &str); 3] = [
 ];
 
 fn main() {
-    println!("cargo::rerun-if-env-changed=EVC_INTER_ARCHIVE_DIR");
+    println!("cargo::rerun-if-env-changed={VARIABLE}");
     if MADE_FOR.iter().any(|(name, want)| var(name) != *want) {
         println!(
             "cargo::error={ARCHIVE} is made for x86-64 Linux with pointers of 64 bits, not for {}",
@@ -24,20 +24,29 @@ fn main() {
         );
         return;
     }
-    let given = env::var_os("EVC_INTER_ARCHIVE_DIR").map(PathBuf::from);
+    let root = root();
+    let given = env::var_os(VARIABLE).filter(|dir| !dir.is_empty());
     let is_own = given.is_none();
-    let dir = given.unwrap_or_else(own_dir);
-    let archive = dir.join(ARCHIVE);
-    println!("cargo::rerun-if-changed={}", archive.display());
-    if !archive.exists() {
+    let dir = given.map_or_else(|| own_dir(&root), PathBuf::from);
+    if !dir.is_absolute() {
         println!(
-            "cargo::error=no {ARCHIVE} in {}: {MAKE}, or set EVC_INTER_ARCHIVE_DIR to the folder that has it",
+            "cargo::error={VARIABLE} is {}, which is not an absolute path",
             dir.display()
         );
         return;
     }
+    let archive = dir.join(ARCHIVE);
+    println!("cargo::rerun-if-changed={}", archive.display());
+    if !archive.exists() {
+        println!(
+            "cargo::error=no {ARCHIVE} in {}: {}",
+            dir.display(),
+            ways(&root)
+        );
+        return;
+    }
     if is_own {
-        warn_if_stale(&archive);
+        warn_if_stale(&archive, &root);
     }
     println!("cargo::rustc-link-search=native={}", dir.display());
     println!("cargo::rustc-link-lib=static=evc_inter");
@@ -47,20 +56,35 @@ fn var(name: &str) -> String {
     env::var(name).unwrap_or_default()
 }
 
+/// Two folders above the crate: the repository, or `share` where `evc install` has put the crate. It is
+/// shown in messages, so it has no `..` inside.
+fn root() -> PathBuf {
+    let root = Path::new(&var("CARGO_MANIFEST_DIR")).join("../..");
+    root.canonicalize().unwrap_or(root)
+}
+
 /// Where the archive is if nobody says: in the repository, or where `evc install` has put it with the crate.
-fn own_dir() -> PathBuf {
-    let root = Path::new(ROOT);
+fn own_dir(root: &Path) -> PathBuf {
     let made = root.join("target/staticlib");
     if made.exists() || root.join("crates").exists() {
         made
     } else {
-        root.join("../lib")
+        root.parent().unwrap_or(root).join("lib")
+    }
+}
+
+/// What to do without an archive: a crate that is not in the repository cannot have one made.
+fn ways(root: &Path) -> String {
+    if root.join("crates").exists() {
+        format!("{MAKE}, or set {VARIABLE} to the folder that has it, as an absolute path")
+    } else {
+        format!("set {VARIABLE} to the folder that has it, as an absolute path, or {MAKE}")
     }
 }
 
 /// The sources beside the repository's own archive may have changed since it was made.
-fn warn_if_stale(archive: &Path) {
-    let crates = Path::new(ROOT).join("crates");
+fn warn_if_stale(archive: &Path, root: &Path) {
+    let crates = root.join("crates");
     if !crates.is_dir() {
         return;
     }

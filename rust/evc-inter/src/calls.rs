@@ -13,7 +13,7 @@ use crate::{Refusal, Replay};
 /// examined, the old border is not.
 ///
 /// ```
-/// use evc_inter::{evc_pad, PlaneConfig, Refusal};
+/// use evc_inter::{evc_pad, PlaneConfig, Refusal, MAX_SAMPLE};
 ///
 /// let cfg = PlaneConfig::new(false, 8, 8)?;
 /// let mut plane = vec![0; cfg.len];
@@ -21,7 +21,7 @@ use crate::{Refusal, Replay};
 /// evc_pad(false, 8, 8, &mut plane)?;
 /// assert_eq!(plane[0], 700); // the upper left corner of the border
 ///
-/// plane[cfg.index(7, 7)] = 1024;
+/// plane[cfg.index(7, 7)] = MAX_SAMPLE + 1;
 /// assert_eq!(evc_pad(false, 8, 8, &mut plane), Err(Refusal::Sample));
 /// # Ok::<(), Refusal>(())
 /// ```
@@ -29,17 +29,21 @@ pub fn evc_pad(chroma: bool, pic_w: u32, pic_h: u32, plane: &mut [u16]) -> Resul
     Refusal::check(unsafe { ffi::evc_pad(chroma, pic_w, pic_h, plane.as_mut_ptr(), plane.len()) })
 }
 
-/// Neighbour flags of a block, in the bits of revc's `AVAIL_*`. Refuses 1, 2, 4.
+/// Neighbour flags of a block, [`AVAIL_UP`](crate::AVAIL_UP) and so on, in revc's bits. Refuses 1, 2, 4.
 ///
-/// `map_scu` has a word for each 4 by 4 unit of the picture, row by row: bit 31 is coded, bit 15
-/// is intra.
+/// `map_scu` has a word for each 4 by 4 unit of the picture, row by row, with the bits
+/// [`SCU_CODED`](crate::SCU_CODED) and [`SCU_INTRA`](crate::SCU_INTRA).
 ///
 /// ```
-/// use evc_inter::{evc_get_avail_inter, EvcBlock, Refusal};
+/// use evc_inter::{evc_get_avail_inter, map_scu_len, EvcBlock, Refusal, SCU_CODED};
+/// use evc_inter::{AVAIL_LE, AVAIL_RI_UP, AVAIL_UP, AVAIL_UP_LE};
 ///
 /// let block = EvcBlock { pic_w: 8, pic_h: 8, x: 4, y: 4, w: 4, h: 4 };
-/// assert_eq!(evc_get_avail_inter(block, &[0x8000_0000; 4]), Ok(547));
-/// assert_eq!(evc_get_avail_inter(block, &[0; 3]), Err(Refusal::Buffer));
+/// let map_scu = vec![SCU_CODED; map_scu_len(8, 8)?];
+/// let avail = evc_get_avail_inter(block, &map_scu)?;
+/// assert_eq!(avail, AVAIL_UP | AVAIL_LE | AVAIL_UP_LE | AVAIL_RI_UP);
+/// assert_eq!(evc_get_avail_inter(block, &map_scu[1..]), Err(Refusal::Buffer));
+/// # Ok::<(), Refusal>(())
 /// ```
 pub fn evc_get_avail_inter(block: EvcBlock, map_scu: &[u32]) -> Result<u16, Refusal> {
     let r = unsafe { ffi::evc_get_avail_inter(block, map_scu.as_ptr(), map_scu.len()) };
@@ -52,19 +56,19 @@ pub fn evc_get_avail_inter(block: EvcBlock, map_scu: &[u32]) -> Result<u16, Refu
 /// across, down. `None` is a picture without a collocated map.
 ///
 /// ```
-/// use evc_inter::{evc_get_motion, EvcBlock, EvcCandidates, EvcMv, Refusal};
+/// use evc_inter::{evc_get_motion, EvcBlock, EvcCandidates, EvcMv, Refusal, AVAIL_LE, AVAIL_UP};
 ///
 /// let block = EvcBlock { pic_w: 8, pic_h: 4, x: 4, y: 0, w: 4, h: 4 };
 /// let map_mv = [10, 11, 12, 13, 0, 0, 0, 0];
 /// let col_mv = [0, 0, 0, 0, 30, 31, 32, 33];
 /// let mut cand = EvcCandidates::default();
-/// evc_get_motion(block, 1, 0b10, &map_mv, Some(&col_mv), &mut cand)?; // bit 1: left
+/// evc_get_motion(block, 1, AVAIL_LE, &map_mv, Some(&col_mv), &mut cand)?;
 /// assert_eq!(cand.left, EvcMv { x: 12, y: 13 });
 /// assert_eq!(cand.up, EvcMv { x: 1, y: 1 });
 /// assert_eq!(cand.collocated, EvcMv { x: 30, y: 31 }); // list 0, for either list number
 ///
 /// let before = cand;
-/// let up = evc_get_motion(block, 1, 0b01, &map_mv, None, &mut cand);
+/// let up = evc_get_motion(block, 1, AVAIL_UP, &map_mv, None, &mut cand);
 /// assert_eq!((up, cand), (Err(Refusal::Neighbour), before)); // nothing is above y = 0
 /// # Ok::<(), Refusal>(())
 /// ```
@@ -94,18 +98,19 @@ pub fn evc_get_motion(
 
 /// The direct vectors of both lists. Refuses 1, 2, 4, 5.
 ///
-/// `poc` is the order count of the picture, `poc0` and `poc1` those of the references, `list_poc0`
-/// the first count that reference 1 lists. `None` is a reference 1 without a motion map.
+/// `poc` is the order count of the picture, `poc0` and `poc1` those of the references, `list_poc0` the
+/// order count of the first picture in reference 1's own list 0; revc's `refp[1].list_poc[0]`. `None` is a
+/// reference 1 without a motion map.
 ///
 /// ```
-/// use evc_inter::{evc_get_mv_dir, EvcBlock, EvcMv, Refusal};
+/// use evc_inter::{evc_get_mv_dir, EvcBlock, EvcMv, Refusal, MAX_POC};
 ///
 /// let block = EvcBlock { pic_w: 4, pic_h: 4, x: 0, y: 0, w: 4, h: 4 };
 /// let col_mv = [7, -7, 0, 0];
 /// let [mv0, mv1] = evc_get_mv_dir(block, 4, 0, 8, 0, Some(&col_mv))?;
 /// assert_eq!(mv0, EvcMv { x: 3, y: -3 });
 /// assert_eq!(mv1, EvcMv { x: -3, y: 3 });
-/// assert_eq!(evc_get_mv_dir(block, 32768, 0, 8, 0, None), Err(Refusal::OrderCount));
+/// assert_eq!(evc_get_mv_dir(block, MAX_POC + 1, 0, 8, 0, None), Err(Refusal::OrderCount));
 /// # Ok::<(), Refusal>(())
 /// ```
 pub fn evc_get_mv_dir(
@@ -261,8 +266,8 @@ pub fn evc_mc2(
 
 /// The header of a trace, into the first 13 bytes lent. Refuses 1, 4.
 ///
-/// `poc` is the order count of the picture, `list_poc0` the first count that reference 1 lists.
-/// [`TraceWriter`](crate::TraceWriter) writes whole traces.
+/// `poc` is the order count of the picture, `list_poc0` the order count of the first picture in reference
+/// 1's own list 0; revc's `refp[1].list_poc[0]`. [`TraceWriter`](crate::TraceWriter) writes whole traces.
 ///
 /// ```
 /// use evc_inter::{evc_trace_write_header, Refusal, TRACE_HEADER_LEN};
@@ -390,9 +395,9 @@ pub fn evc_trace_replay(
 /// [`evc_get_motion`], `map_scu` as for [`evc_get_avail_inter`].
 ///
 /// ```
-/// use evc_inter::{evc_camera_motion, CameraMotion, Refusal};
+/// use evc_inter::{evc_camera_motion, CameraMotion, Refusal, SCU_CODED, SCU_INTRA};
 ///
-/// let words = [0x8000_0000; 2]; // coded, not intra
+/// let words = [SCU_CODED; 2];
 /// let panned = [6, 0, 0, 0, 7, 0, 0, 0];
 /// let mean = CameraMotion::Moving { x: 1.625, y: 0.0 }; // 13 quarter samples over two units
 /// assert_eq!(evc_camera_motion(8, 4, &panned, &words)?, mean);
@@ -400,7 +405,7 @@ pub fn evc_trace_replay(
 /// let apart = [4, 0, 0, 0, -4, 0, 0, 0]; // the sums decide, not each vector
 /// assert_eq!(evc_camera_motion(8, 4, &apart, &words)?, CameraMotion::Still);
 ///
-/// let intra = [0x8000_8000; 2];
+/// let intra = [SCU_CODED | SCU_INTRA; 2];
 /// assert_eq!(evc_camera_motion(8, 4, &panned, &intra)?, CameraMotion::None);
 /// assert_eq!(evc_camera_motion(8, 4, &panned[1..], &words), Err(Refusal::Buffer));
 /// # Ok::<(), Refusal>(())

@@ -44,11 +44,10 @@ impl Picture {
     pub fn flipped(&self, flip: Flip) -> Picture {
         let mut flipped = self.clone();
         for (plane, straight) in flipped.planes.iter_mut().zip(&self.planes) {
-            let from_bottom = (0..straight.cfg().height).rev();
-            for (row, y) in plane.rows_mut().zip(from_bottom) {
+            for (row, from_bottom) in plane.rows_mut().zip(straight.rows().rev()) {
                 match flip {
                     Flip::LeftRight => row.reverse(),
-                    Flip::TopBottom => row.copy_from_slice(straight.row(y)),
+                    Flip::TopBottom => row.copy_from_slice(from_bottom),
                 }
             }
         }

@@ -38,14 +38,19 @@
 //! A call gives a finished result or one [`Refusal`], for any numbers and any buffers; after a refusal
 //! all that was lent is as it was, but for the target of a replay. Sizes and places are in luma samples,
 //! vectors in quarter luma samples, samples are 10 bits. [`PlaneConfig`] says how a plane lies in its
-//! buffer, [`cu_plane`] how a predicted block does.
+//! buffer, [`cu_plane`] how a predicted block does, [`map_scu_len`], [`map_mv_len`] and [`unit_at`] how
+//! unit words and motion maps do.
+//!
+//! No call panics. What reads a row or a plane by its number, as [`Plane::row`], [`Prediction::rows`] and
+//! [`cu_plane`], panics if there is none, and [`Prediction::put`] if the picture has another size.
 //!
 //! # Requirements
 //!
 //! Rust 1.84 or later, and nothing beside its standard library. x86-64 Linux, for which the archive of
 //! the proved calls is made. The Rattle toolchain `rattle-kit-5` to make it: `rt staticlib evc_inter` at
 //! the root of the repository writes `target/staticlib/libevc_inter.a`, where the build script looks for
-//! it. `EVC_INTER_ARCHIVE_DIR`, an absolute path, names another folder.
+//! it. `EVC_INTER_ARCHIVE_DIR`, an absolute path, names another folder; if it is empty, it is as if it
+//! were not set.
 
 #![deny(missing_docs)]
 
@@ -62,6 +67,7 @@ mod reader;
 mod refusal;
 mod trace;
 mod types;
+mod units;
 
 pub use calls::*;
 pub use camera::*;
@@ -74,6 +80,7 @@ pub use reader::*;
 pub use refusal::*;
 pub use trace::*;
 pub use types::*;
+pub use units::*;
 
 /// The examples of docs/INTEGRATION.md are tests too.
 #[cfg(doctest)]

@@ -1,6 +1,7 @@
 //! Pictures that the calls take, with their borders and without.
 
 use crate::{Plane, Refusal};
+use std::error::Error;
 use std::{fmt, io};
 
 /// Which of the three planes are chroma.
@@ -8,7 +9,8 @@ const CHROMA: [bool; 3] = [false, true, true];
 
 /// The three planes of a picture: Y, U, V.
 ///
-/// Its samples can be set; to be a reference it is padded, which makes it a [`PaddedPicture`].
+/// Its samples can be set; to be a reference it is padded, which makes it a [`PaddedPicture`]. Two are
+/// equal if their planes are, which compare the picture's samples and not the borders.
 ///
 /// ```
 /// use evc_inter::{Picture, Refusal};
@@ -20,8 +22,9 @@ const CHROMA: [bool; 3] = [false, true, true];
 ///
 /// let mut picture = error.into_picture();
 /// picture.planes[0].row_mut(7)[15] = 1023;
-/// let padded = picture.pad()?;
+/// let padded = picture.clone().pad()?;
 /// assert_eq!(padded.sides(), (16, 8));
+/// assert_eq!(*padded.picture(), picture); // whose border is not filled
 /// # Ok::<(), Refusal>(())
 /// ```
 #[derive(Clone, Debug, PartialEq, Eq)]
@@ -215,7 +218,8 @@ impl PaddedPicture {
     }
 }
 
-/// Why a picture could not be padded, and the picture.
+/// Why a picture could not be padded, and the picture. By `?` it becomes a [`Refusal`], without the plane,
+/// or an [`io::Error`], with it.
 ///
 /// ```
 /// use evc_inter::{Picture, Refusal};
@@ -224,6 +228,9 @@ impl PaddedPicture {
 /// picture.planes[1].row_mut(3)[7] = 4095;
 /// let error = picture.pad().unwrap_err();
 /// assert!(error.to_string().starts_with("plane U: refused (6): a sample is above 1023"));
+/// let error = std::io::Error::from(error);
+/// assert!(error.to_string().starts_with("plane U: refused (6): a sample is above 1023"));
+/// assert_eq!(Refusal::of(&error), Some(Refusal::Sample));
 /// # Ok::<(), Refusal>(())
 /// ```
 pub struct PadError(Box<Unpadded>);
@@ -297,7 +304,12 @@ impl fmt::Display for PadError {
     }
 }
 
-impl std::error::Error for PadError {}
+/// The source is the refusal, which [`Refusal::of`] finds.
+impl Error for PadError {
+    fn source(&self) -> Option<&(dyn Error + 'static)> {
+        Some(&self.0.refusal)
+    }
+}
 
 impl From<PadError> for Refusal {
     fn from(error: PadError) -> Refusal {
@@ -305,9 +317,9 @@ impl From<PadError> for Refusal {
     }
 }
 
-/// As a [`Refusal`] becomes one, with that refusal inside.
+/// As a [`Refusal`] becomes one, with the error inside, and so the plane in its text.
 impl From<PadError> for io::Error {
     fn from(error: PadError) -> io::Error {
-        error.refusal().into()
+        io::Error::new(io::ErrorKind::InvalidInput, error)
     }
 }

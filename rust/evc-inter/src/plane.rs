@@ -1,10 +1,11 @@
 //! Planes that the calls take.
 
-use crate::{evc_pad, Refusal};
+use crate::{evc_pad, Refusal, MAX_SIDE};
+use std::fmt;
 
 /// Refuses 1 for a picture that no call takes.
 pub(crate) fn check_sides(pic_w: u32, pic_h: u32) -> Result<(), Refusal> {
-    let is_side = |side: u32| side % 4 == 0 && (4..=8128).contains(&side);
+    let is_side = |side: u32| side % 4 == 0 && (4..=MAX_SIDE).contains(&side);
     match is_side(pic_w) && is_side(pic_h) {
         true => Ok(()),
         false => Err(Refusal::Picture),
@@ -81,6 +82,10 @@ impl PlaneConfig {
 /// Set the picture's samples by [`row_mut`](Plane::row_mut), then [`pad`](Plane::pad): a change
 /// after that needs another `pad`.
 ///
+/// Two planes are equal if both are luma or both chroma, of pictures of the same sides, with the same
+/// samples in the picture. Borders are not compared: a plane equals its padded copy.
+/// [`samples`](Plane::samples) compares them too.
+///
 /// ```
 /// use evc_inter::{Plane, Refusal};
 ///
@@ -89,9 +94,14 @@ impl PlaneConfig {
 /// plane.pad()?;
 /// assert_eq!(plane.row(0), [5, 6, 7, 8]);
 /// assert_eq!(plane.samples()[0], 5);
+///
+/// let mut other = plane.clone();
+/// other.samples_mut()[0] = 900; // of the border
+/// assert_eq!(other, plane);
+/// assert_ne!(other.samples(), plane.samples());
 /// # Ok::<(), Refusal>(())
 /// ```
-#[derive(Clone, Debug, PartialEq, Eq)]
+#[derive(Clone)]
 pub struct Plane {
     chroma: bool,
     pic_w: u32,
@@ -103,14 +113,47 @@ pub struct Plane {
 impl Plane {
     /// A plane of zeros for a picture of `pic_w` by `pic_h`. Refuses 1.
     pub fn new(chroma: bool, pic_w: u32, pic_h: u32) -> Result<Plane, Refusal> {
+        let len = PlaneConfig::new(chroma, pic_w, pic_h)?.len;
+        Plane::from_samples(chroma, pic_w, pic_h, vec![0; len])
+    }
+
+    /// A plane over a buffer that is laid out as [`PlaneConfig`] says, border included, without a copy.
+    /// Refuses 1, 4.
+    ///
+    /// What lies behind the needed length is cut off. Samples are not examined here, but by
+    /// [`pad`](Plane::pad) and by the calls. A buffer of another stride cannot be told from a right one.
+    ///
+    /// ```
+    /// use evc_inter::{Plane, PlaneConfig, Refusal};
+    ///
+    /// let cfg = PlaneConfig::new(true, 16, 8)?;
+    /// let mut decoded = vec![0; cfg.len + 9];
+    /// decoded[cfg.index(7, 3)] = 700;
+    /// let plane = Plane::from_samples(true, 16, 8, decoded)?;
+    /// assert_eq!(plane.row(3)[6..], [0, 700]);
+    /// assert_eq!(plane.samples().len(), cfg.len);
+    ///
+    /// let short = Plane::from_samples(true, 16, 8, vec![0; cfg.len - 1]);
+    /// assert_eq!(short, Err(Refusal::Buffer));
+    /// # Ok::<(), Refusal>(())
+    /// ```
+    pub fn from_samples(
+        chroma: bool,
+        pic_w: u32,
+        pic_h: u32,
+        mut samples: Vec<u16>,
+    ) -> Result<Plane, Refusal> {
         let cfg = PlaneConfig::new(chroma, pic_w, pic_h)?;
-        let data = vec![0; cfg.len];
+        if samples.len() < cfg.len {
+            return Err(Refusal::Buffer);
+        }
+        samples.truncate(cfg.len);
         Ok(Plane {
             chroma,
             pic_w,
             pic_h,
             cfg,
-            data,
+            data: samples,
         })
     }
 
@@ -156,7 +199,15 @@ impl Plane {
     }
 
     /// The picture's rows from the top.
-    pub fn rows(&self) -> impl Iterator<Item = &[u16]> {
+    ///
+    /// ```
+    /// let mut plane = evc_inter::Plane::new(false, 4, 8)?;
+    /// plane.row_mut(7).fill(9);
+    /// assert_eq!(plane.rows().len(), 8);
+    /// assert_eq!(plane.rows().next_back(), Some(&[9; 4][..]));
+    /// # Ok::<(), evc_inter::Refusal>(())
+    /// ```
+    pub fn rows(&self) -> impl DoubleEndedIterator<Item = &[u16]> + ExactSizeIterator {
         (0..self.cfg.height).map(|y| self.row(y))
     }
 
@@ -168,7 +219,7 @@ impl Plane {
     /// assert!(plane.rows().eq([[1; 4], [2; 4], [3; 4], [4; 4]]));
     /// # Ok::<(), evc_inter::Refusal>(())
     /// ```
-    pub fn rows_mut(&mut self) -> impl Iterator<Item = &mut [u16]> {
+    pub fn rows_mut(&mut self) -> impl DoubleEndedIterator<Item = &mut [u16]> + ExactSizeIterator {
         let PlaneConfig {
             width,
             height,
@@ -203,6 +254,26 @@ impl Plane {
     /// ```
     pub fn samples_mut(&mut self) -> &mut [u16] {
         &mut self.data
+    }
+}
+
+/// Kind, sides and the picture's samples.
+impl PartialEq for Plane {
+    fn eq(&self, other: &Plane) -> bool {
+        other.is_of(self.chroma, self.sides()) && self.rows().eq(other.rows())
+    }
+}
+
+impl Eq for Plane {}
+
+/// Without the samples, which nobody reads in a message.
+impl fmt::Debug for Plane {
+    fn fmt(&self, f: &mut fmt::Formatter<'_>) -> fmt::Result {
+        f.debug_struct("Plane")
+            .field("chroma", &self.chroma)
+            .field("pic_w", &self.pic_w)
+            .field("pic_h", &self.pic_h)
+            .finish_non_exhaustive()
     }
 }
 
@@ -261,5 +332,75 @@ mod tests {
             }
             assert!(plane.rows().eq((0..cfg.height).map(|y| plane.row(y))));
         }
+    }
+
+    /// From either end, and each row once.
+    #[test]
+    fn rows() {
+        for chroma in [false, true] {
+            let mut plane = Plane::new(chroma, 12, 20).unwrap();
+            let height = plane.cfg().height;
+            assert_eq!(plane.rows().len(), height);
+            assert_eq!(plane.rows_mut().len(), height);
+            for (row, grey) in plane.rows_mut().rev().zip(1..) {
+                row.fill(grey);
+            }
+            let greys = plane.rows().map(|row| usize::from(row[0]));
+            assert!(greys.eq((1..=height).rev()));
+            let bottom = plane.rows().rev().map(|row| usize::from(row[0]));
+            assert!(bottom.eq(1..=height));
+            let last = plane.rows_mut().next_back().unwrap().as_ptr();
+            assert_eq!(last, plane.row(height - 1).as_ptr());
+        }
+    }
+
+    /// Each sample of the picture counts, and none of the border.
+    #[test]
+    fn equality() {
+        for chroma in [false, true] {
+            let plane = Plane::new(chroma, 8, 4).unwrap();
+            let (cfg, mut differ) = (*plane.cfg(), 0);
+            for at in 0..cfg.len {
+                let mut other = plane.clone();
+                other.samples_mut()[at] = 1;
+                let is_in_picture = other.rows().flatten().any(|sample| *sample == 1);
+                assert_eq!(other != plane, is_in_picture, "{at}");
+                differ += usize::from(is_in_picture);
+            }
+            assert_eq!(differ, cfg.width * cfg.height);
+            assert_ne!(plane, Plane::new(!chroma, 8, 4).unwrap());
+            assert_ne!(plane, Plane::new(chroma, 4, 8).unwrap());
+        }
+        // Both have 4 by 4 samples, all of them 0.
+        let luma = Plane::new(false, 4, 4).unwrap();
+        let chroma = Plane::new(true, 8, 8).unwrap();
+        assert!(luma.rows().eq(chroma.rows()) && luma != chroma);
+    }
+
+    /// The buffer that is given is the plane's, cut off.
+    #[test]
+    fn from_samples() {
+        for chroma in [false, true] {
+            let len = PlaneConfig::new(chroma, 8, 4).unwrap().len;
+            for excess in [0, 1, 100] {
+                let samples: Vec<u16> = (0..=u16::MAX).cycle().take(len + excess).collect();
+                let (at, want) = (samples.as_ptr(), samples[..len].to_vec());
+                let plane = Plane::from_samples(chroma, 8, 4, samples).unwrap();
+                assert_eq!(plane.samples().as_ptr(), at);
+                assert!(plane.samples() == want);
+                assert!(plane.is_of(chroma, (8, 4)));
+            }
+            let short = Plane::from_samples(chroma, 8, 4, vec![0; len - 1]);
+            assert_eq!(short, Err(Refusal::Buffer));
+            let bad_picture = Plane::from_samples(chroma, 8, 6, vec![]);
+            assert_eq!(bad_picture, Err(Refusal::Picture));
+        }
+    }
+
+    #[test]
+    fn shown_without_samples() {
+        let plane = Plane::new(true, 8, 4).unwrap();
+        let shown = "Plane { chroma: true, pic_w: 8, pic_h: 4, .. }";
+        assert_eq!(format!("{plane:?}"), shown);
     }
 }

@@ -21,8 +21,45 @@ pub struct Reference<'a> {
     pub picture: &'a PaddedPicture,
     /// The vector, as decoded: it is clipped here.
     pub mv: EvcMv,
-    /// The picture's order count, 0 to 32,767.
+    /// The picture's order count, at most [`MAX_POC`](crate::MAX_POC).
     pub poc: u32,
+}
+
+/// The list that a reference is in use by, for [`evc_mc2`] or a trace's record.
+///
+/// ```
+/// use evc_inter::{EvcBlock, EvcList, EvcMv, Picture, Predictor, Reference, Refusal, TraceRecord};
+///
+/// let picture = Picture::new(16, 8)?.pad()?;
+/// let list1 = Reference { picture: &picture, mv: EvcMv { x: -5, y: 2 }, poc: 8 };
+/// assert_eq!(EvcList::from(list1), EvcList { used: true, mv: list1.mv, poc: 8 });
+///
+/// // A prediction and its record from one value.
+/// let block = EvcBlock { pic_w: 16, pic_h: 8, x: 8, y: 0, w: 8, h: 8 };
+/// let lists = [None, Some(list1)];
+/// let [list0, list1] = lists.map(EvcList::from);
+/// assert!(!list0.used);
+/// let record = TraceRecord::from_lists(block, list0, list1)?;
+/// Predictor::new().predict(block, lists)?;
+/// # assert_eq!(record.x, 8);
+/// # Ok::<(), Refusal>(())
+/// ```
+impl From<Reference<'_>> for EvcList {
+    fn from(reference: Reference<'_>) -> EvcList {
+        let Reference { mv, poc, .. } = reference;
+        EvcList {
+            used: true,
+            mv,
+            poc,
+        }
+    }
+}
+
+/// `None` is a list that is not in use.
+impl From<Option<Reference<'_>>> for EvcList {
+    fn from(reference: Option<Reference<'_>>) -> EvcList {
+        reference.map_or_else(EvcList::default, EvcList::from)
+    }
 }
 
 /// Predicts blocks, one after another: [`evc_mc2`] with the two blocks that are lent to it.
@@ -103,14 +140,7 @@ impl Predictor {
         block: EvcBlock,
         lists: [Option<Reference<'_>>; 2],
     ) -> Result<Prediction<'_>, Refusal> {
-        let [list0, list1] = lists.map(|reference| match reference {
-            Some(Reference { mv, poc, .. }) => EvcList {
-                used: true,
-                mv,
-                poc,
-            },
-            None => EvcList::default(),
-        });
+        let [list0, list1] = lists.map(EvcList::from);
         let sides = Some((block.pic_w, block.pic_h));
         let [planes0, planes1] = lists.map(|reference| match reference {
             Some(reference) => reference.picture.samples_for(sides),
@@ -162,7 +192,7 @@ impl fmt::Debug for Predictor {
 /// assert_eq!(target.planes[0].row(4)[6..10], [0, 0, 102, 102]);
 /// # Ok::<(), Refusal>(())
 /// ```
-#[derive(Clone, Copy, Debug)]
+#[derive(Clone, Copy)]
 pub struct Prediction<'a> {
     block: EvcBlock,
     samples: &'a [u16],
@@ -190,9 +220,21 @@ impl<'a> Prediction<'a> {
 
     /// The rows of plane `c`, from the top.
     ///
+    /// ```
+    /// # use evc_inter::{EvcBlock, EvcMv, Picture, Predictor, Reference, Refusal};
+    /// # let picture = Picture::new(16, 8)?.pad()?;
+    /// # let lists = [Some(Reference { picture: &picture, mv: EvcMv::default(), poc: 0 }), None];
+    /// # let mut predictor = Predictor::new();
+    /// let block = EvcBlock { pic_w: 16, pic_h: 8, x: 8, y: 0, w: 8, h: 4 };
+    /// let prediction = predictor.predict(block, lists)?;
+    /// assert_eq!([0, 1, 2].map(|c| prediction.rows(c).len()), [4, 2, 2]);
+    /// assert_eq!(prediction.rows(1).next_back(), Some(&[0; 4][..]));
+    /// # Ok::<(), Refusal>(())
+    /// ```
+    ///
     /// # Panics
     /// If there is no such plane.
-    pub fn rows(&self, c: usize) -> impl Iterator<Item = &'a [u16]> {
+    pub fn rows(&self, c: usize) -> impl DoubleEndedIterator<Item = &'a [u16]> + ExactSizeIterator {
         self.plane(c).chunks_exact(on_plane(c, self.block.w))
     }
 
@@ -212,5 +254,14 @@ impl<'a> Prediction<'a> {
                 row[x..x + w].copy_from_slice(predicted);
             }
         }
+    }
+}
+
+/// Without the samples, which nobody reads in a message.
+impl fmt::Debug for Prediction<'_> {
+    fn fmt(&self, f: &mut fmt::Formatter<'_>) -> fmt::Result {
+        f.debug_struct("Prediction")
+            .field("block", &self.block)
+            .finish_non_exhaustive()
     }
 }

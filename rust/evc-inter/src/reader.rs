@@ -8,7 +8,7 @@ use std::iter::FusedIterator;
 /// What a trace begins with: the letters IPT and version 1.
 const MARK: [u8; 5] = *b"IPT\x01\0";
 
-/// What a trace's header says of its picture.
+/// What a trace's header says of its picture. The default is all zeros, so it needs a size.
 ///
 /// ```
 /// use evc_inter::{TraceHeader, TraceReader, TraceWriter};
@@ -18,7 +18,7 @@ const MARK: [u8; 5] = *b"IPT\x01\0";
 /// assert_eq!(*TraceReader::new(&trace)?.header(), header);
 /// # Ok::<(), std::io::Error>(())
 /// ```
-#[derive(Clone, Copy, Debug, PartialEq, Eq, Hash)]
+#[derive(Clone, Copy, Debug, Default, PartialEq, Eq, Hash)]
 pub struct TraceHeader {
     /// Width of the picture, in luma samples.
     pub pic_w: u32,
@@ -26,7 +26,7 @@ pub struct TraceHeader {
     pub pic_h: u32,
     /// Order count of the picture.
     pub poc: u16,
-    /// The first count that reference 1 lists.
+    /// Order count of the first picture in reference 1's own list 0; revc's `refp[1].list_poc[0]`.
     pub list_poc0: u16,
 }
 

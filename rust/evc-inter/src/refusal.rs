@@ -1,6 +1,7 @@
 //! Why a call was refused.
 
-use std::fmt;
+use std::error::Error;
+use std::{fmt, io};
 
 /// The numbers of document 01's table and, from 10 on, of document 02. A call that returns one has
 /// written nothing; only a replay keeps the blocks before the record that it refuses, as
@@ -18,9 +19,10 @@ use std::fmt;
 /// assert!(refusal.to_string().starts_with("refused (1): picture width or height"));
 /// ```
 ///
-/// Later requests may add numbers, so a `match` needs an arm for those.
+/// Refusals are ordered by their numbers. Later requests may add numbers, so a `match` needs an arm for
+/// those.
 #[non_exhaustive]
-#[derive(Clone, Copy, Debug, PartialEq, Eq, Hash)]
+#[derive(Clone, Copy, Debug, PartialEq, Eq, PartialOrd, Ord, Hash)]
 #[repr(u32)]
 pub enum Refusal {
     /// A picture side is not allowed.
@@ -78,6 +80,31 @@ impl Refusal {
         self as u32
     }
 
+    /// The refusal inside an error: a refusal itself, a [`PadError`](crate::PadError), a
+    /// [`ReplayError`](crate::ReplayError), an [`io::Error`] made from one of these, or any other error
+    /// that has one of them among its sources. `None` for a full disk, say.
+    ///
+    /// ```
+    /// use evc_inter::{Refusal, TraceWriter};
+    ///
+    /// let error = TraceWriter::new(Vec::new(), 416, 239, 4, 0).unwrap_err();
+    /// assert_eq!(Refusal::of(&error), Some(Refusal::Picture));
+    ///
+    /// let full = TraceWriter::new(&mut [0; 12][..], 416, 240, 4, 0).unwrap_err();
+    /// assert_eq!(Refusal::of(&full), None);
+    /// ```
+    pub fn of(error: &(dyn Error + 'static)) -> Option<Refusal> {
+        if let Some(refusal) = error.downcast_ref() {
+            return Some(*refusal);
+        }
+        let inside = match error.downcast_ref::<io::Error>() {
+            // Its source is that of the error inside, which is passed over.
+            Some(error) => error.get_ref().map(|inside| inside as _),
+            None => error.source(),
+        };
+        inside.and_then(Refusal::of)
+    }
+
     /// What a C call returned; 0 is done.
     pub(crate) fn check(code: u32) -> Result<(), Refusal> {
         if code == 0 {
@@ -108,6 +135,20 @@ impl TryFrom<u32> for Refusal {
     }
 }
 
+/// [`number`](Refusal::number), for what takes any number.
+///
+/// ```
+/// use evc_inter::Refusal;
+///
+/// assert_eq!(u32::from(Refusal::Record), 12);
+/// assert_eq!(Refusal::try_from(u32::from(Refusal::Mark)), Ok(Refusal::Mark));
+/// ```
+impl From<Refusal> for u32 {
+    fn from(refusal: Refusal) -> u32 {
+        refusal.number()
+    }
+}
+
 /// A number that no refusal has.
 ///
 /// ```
@@ -123,7 +164,7 @@ impl fmt::Display for UnknownRefusal {
     }
 }
 
-impl std::error::Error for UnknownRefusal {}
+impl Error for UnknownRefusal {}
 
 impl fmt::Display for Refusal {
     fn fmt(&self, f: &mut fmt::Formatter<'_>) -> fmt::Result {
@@ -173,7 +214,25 @@ impl fmt::Display for Refusal {
     }
 }
 
-impl std::error::Error for Refusal {}
+impl Error for Refusal {}
+
+/// A refusal among errors of reading and writing: [`io::ErrorKind::InvalidInput`], with the refusal
+/// inside, which [`Refusal::of`] finds.
+///
+/// ```
+/// use evc_inter::Refusal;
+/// use std::io;
+///
+/// let error = io::Error::from(Refusal::Sample);
+/// assert_eq!(error.kind(), io::ErrorKind::InvalidInput);
+/// assert_eq!(error.to_string(), Refusal::Sample.to_string());
+/// assert_eq!(Refusal::of(&error), Some(Refusal::Sample));
+/// ```
+impl From<Refusal> for io::Error {
+    fn from(refusal: Refusal) -> io::Error {
+        io::Error::new(io::ErrorKind::InvalidInput, refusal)
+    }
+}
 
 #[test]
 fn numbers() {
@@ -181,13 +240,14 @@ fn numbers() {
     let numbers = [1, 2, 3, 4, 5, 6, 7, 10, 11, 12];
     assert_eq!(Refusal::ALL.len(), numbers.len());
     for (&refusal, number) in Refusal::ALL.iter().zip(numbers) {
-        assert_eq!(refusal.number(), number);
+        assert_eq!([refusal.number(), refusal.into()], [number; 2]);
         assert_eq!(Refusal::check(number), Err(refusal));
         assert!(refusal
             .to_string()
             .starts_with(&format!("refused ({number}): ")));
         assert_eq!(refusal.to_string().lines().count(), 1);
     }
+    assert!(Refusal::ALL.is_sorted());
     for number in [0, 8, 9, 13, u32::MAX] {
         assert_eq!(Refusal::try_from(number), Err(UnknownRefusal(number)));
     }

@@ -4,8 +4,8 @@ use crate::ffi;
 use crate::{evc_get_mv_dir, evc_trace_replay, evc_trace_write_header, evc_trace_write_record};
 use crate::{EvcBlock, EvcList, EvcMv, EvcTraceRecord};
 use crate::{PaddedPicture, Picture, Refusal, TraceHeader, TraceReader};
-use std::fmt;
-use std::io;
+use std::error::Error;
+use std::{fmt, io};
 
 /// Bytes of a trace's header.
 ///
@@ -315,14 +315,6 @@ impl TryFrom<EvcTraceRecord> for TraceRecord {
     }
 }
 
-/// A refusal among errors of reading and writing: [`io::ErrorKind::InvalidInput`], with the refusal
-/// inside.
-impl From<Refusal> for io::Error {
-    fn from(refusal: Refusal) -> io::Error {
-        io::Error::new(io::ErrorKind::InvalidInput, refusal)
-    }
-}
-
 /// Writes a trace: the header, then a record for each predicted block.
 ///
 /// `out` may be a `Vec<u8>` or a file. A file wants a [`BufWriter`](io::BufWriter) around it, since
@@ -352,11 +344,13 @@ pub struct TraceWriter<W> {
 }
 
 impl<W: io::Write> TraceWriter<W> {
-    /// Writes the header: the picture's size, its order count, and the first count that reference
-    /// 1, the collocated one, lists (0 where no block is direct).
+    /// Writes the header: the picture's size, its order count `poc`, and `list_poc0`, the order count of
+    /// the first picture in reference 1's own list 0 (revc's `refp[1].list_poc[0]`; 0 where no block is
+    /// direct).
     ///
     /// Fails with [`Refusal::Picture`] inside for a side that no call takes, with
-    /// [`Refusal::OrderCount`] for a count above 65,535; nothing is written then.
+    /// [`Refusal::OrderCount`] for a count above 65,535; nothing is written then. [`Refusal::of`] finds
+    /// what is inside.
     ///
     /// ```
     /// use evc_inter::{Refusal, TraceWriter};
@@ -365,19 +359,51 @@ impl<W: io::Write> TraceWriter<W> {
     /// assert_eq!(trace.get_ref()[..5], *b"IPT\x01\0");
     ///
     /// let error = TraceWriter::new(Vec::new(), 416, 239, 4, 0).unwrap_err();
-    /// let inside = error.get_ref().and_then(|inside| inside.downcast_ref());
-    /// assert_eq!(inside, Some(&Refusal::Picture));
+    /// assert_eq!(Refusal::of(&error), Some(Refusal::Picture));
     /// # Ok::<(), std::io::Error>(())
     /// ```
     pub fn new(
-        mut out: W,
+        out: W,
         pic_w: u32,
         pic_h: u32,
         poc: u32,
         list_poc0: u32,
     ) -> io::Result<TraceWriter<W>> {
+        let header = TraceHeader {
+            pic_w,
+            pic_h,
+            poc: poc16(poc)?,
+            list_poc0: poc16(list_poc0)?,
+        };
+        TraceWriter::with_header(out, &header)
+    }
+
+    /// [`new`](TraceWriter::new) with the numbers of a header, that of a [`TraceReader`] say.
+    ///
+    /// ```
+    /// use evc_inter::{TraceHeader, TraceReader, TraceWriter};
+    ///
+    /// let header = TraceHeader { pic_w: 416, pic_h: 240, poc: 4, ..Default::default() };
+    /// let trace = TraceWriter::with_header(Vec::new(), &header)?.into_inner();
+    /// let reader = TraceReader::new(&trace)?;
+    /// assert_eq!(*reader.header(), header);
+    ///
+    /// let mut shorter = TraceWriter::with_header(Vec::new(), reader.header())?;
+    /// for record in reader.take(100) {
+    ///     shorter.record(record?)?;
+    /// }
+    /// assert_eq!(shorter.into_inner(), trace); // it has no record
+    /// # Ok::<(), std::io::Error>(())
+    /// ```
+    pub fn with_header(mut out: W, header: &TraceHeader) -> io::Result<TraceWriter<W>> {
+        let TraceHeader {
+            pic_w,
+            pic_h,
+            poc,
+            list_poc0,
+        } = *header;
         let mut bytes = [0; TRACE_HEADER_LEN];
-        evc_trace_write_header(pic_w, pic_h, poc16(poc)?, poc16(list_poc0)?, &mut bytes)?;
+        evc_trace_write_header(pic_w, pic_h, poc, list_poc0, &mut bytes)?;
         out.write_all(&bytes)?;
         Ok(TraceWriter {
             out,
@@ -406,6 +432,22 @@ impl<W> TraceWriter<W> {
     /// What is written to.
     pub fn get_ref(&self) -> &W {
         &self.out
+    }
+
+    /// What is written to, to be flushed say. Bytes that are written to it by hand are part of the trace.
+    ///
+    /// ```
+    /// use evc_inter::TraceWriter;
+    /// use std::io::Write;
+    ///
+    /// let mut trace = TraceWriter::new(std::io::BufWriter::new(Vec::new()), 64, 32, 4, 0)?;
+    /// assert!(trace.get_ref().get_ref().is_empty());
+    /// trace.get_mut().flush()?;
+    /// assert_eq!(trace.get_ref().get_ref().len(), 13);
+    /// # Ok::<(), std::io::Error>(())
+    /// ```
+    pub fn get_mut(&mut self) -> &mut W {
+        &mut self.out
     }
 
     /// What was written to, for the trace is at its end. Nothing is flushed.
@@ -497,7 +539,8 @@ impl fmt::Display for Replay {
     }
 }
 
-/// Where and why a replay stopped.
+/// Where and why a replay stopped. By `?` it becomes a [`Refusal`], without the place, or an
+/// [`io::Error`], with it.
 ///
 /// ```
 /// use evc_inter::{replay, Picture, Refusal, TraceWriter};
@@ -509,6 +552,10 @@ impl fmt::Display for Replay {
 /// let error = replay(&trace, [&reference; 2], None, &mut target).result().unwrap_err();
 /// assert_eq!((error.record, error.refusal), (Some(0), Refusal::Incomplete));
 /// assert!(error.to_string().starts_with("record 0: refused (11): "));
+/// assert_eq!(Refusal::from(error), Refusal::Incomplete);
+/// let error = std::io::Error::from(error);
+/// assert!(error.to_string().starts_with("record 0: refused (11): "));
+/// assert_eq!(Refusal::of(&error), Some(Refusal::Incomplete));
 /// # Ok::<(), std::io::Error>(())
 /// ```
 #[non_exhaustive]
@@ -529,7 +576,25 @@ impl fmt::Display for ReplayError {
     }
 }
 
-impl std::error::Error for ReplayError {}
+/// The source is the refusal, which [`Refusal::of`] finds.
+impl Error for ReplayError {
+    fn source(&self) -> Option<&(dyn Error + 'static)> {
+        Some(&self.refusal)
+    }
+}
+
+impl From<ReplayError> for Refusal {
+    fn from(error: ReplayError) -> Refusal {
+        error.refusal
+    }
+}
+
+/// As a [`Refusal`] becomes one, with the replay's error inside.
+impl From<ReplayError> for io::Error {
+    fn from(error: ReplayError) -> io::Error {
+        io::Error::new(io::ErrorKind::InvalidInput, error)
+    }
+}
 
 /// Replays a trace: [`evc_trace_replay`] over pictures.
 ///

@@ -18,6 +18,33 @@ pub struct EvcMv {
     pub y: i16,
 }
 
+/// From revc's form, across and down.
+///
+/// ```
+/// use evc_inter::EvcMv;
+///
+/// assert_eq!(EvcMv::from([-2, 300]), EvcMv { x: -2, y: 300 });
+/// assert_eq!([[1, 2], [3, 4]].map(EvcMv::from)[1].x, 3);
+/// ```
+impl From<[i16; 2]> for EvcMv {
+    fn from([x, y]: [i16; 2]) -> EvcMv {
+        EvcMv { x, y }
+    }
+}
+
+/// To revc's form, across and down.
+///
+/// ```
+/// use evc_inter::EvcMv;
+///
+/// assert_eq!(<[i16; 2]>::from(EvcMv { x: -2, y: 300 }), [-2, 300]);
+/// ```
+impl From<EvcMv> for [i16; 2] {
+    fn from(EvcMv { x, y }: EvcMv) -> [i16; 2] {
+        [x, y]
+    }
+}
+
 /// A block of a picture, in luma samples.
 ///
 /// ```
@@ -30,7 +57,7 @@ pub struct EvcMv {
 #[derive(Clone, Copy, Debug, Default, PartialEq, Eq, Hash)]
 #[repr(C)]
 pub struct EvcBlock {
-    /// Width of the picture: a multiple of 4 from 4 to 8128.
+    /// Width of the picture: a multiple of 4 from 4 to [`MAX_SIDE`](crate::MAX_SIDE).
     pub pic_w: u32,
     /// Height of the picture, likewise.
     pub pic_h: u32,
@@ -60,7 +87,7 @@ pub struct EvcList {
     pub used: bool,
     /// The vector, as decoded: `evc_mc2` clips it.
     pub mv: EvcMv,
-    /// Order count of the reference, 0 to 32,767.
+    /// Order count of the reference, at most [`MAX_POC`](crate::MAX_POC).
     pub poc: u32,
 }
 

@@ -68,7 +68,7 @@ fn pictures() {
         }
         assert_ne!(flipped, *straight.picture());
         let twice = flipped.pad().unwrap().picture().flipped(flip);
-        assert_eq!(twice.pad().unwrap(), straight);
+        assert!(twice.pad().unwrap().samples() == straight.samples());
     }
 }
 
@@ -227,7 +227,7 @@ fn records() {
         let trace = trace(&mut records.iter().map(turn));
         let flipped = replayed(&trace, &flipped_pictures(&straight, flip), None);
         let back = flipped.picture().flipped(flip).pad().unwrap();
-        assert!(back == target, "{flip}");
+        assert!(back.samples() == target.samples(), "{flip}");
     }
 }
 

@@ -1,6 +1,7 @@
 //! Pictures, padded and refused.
 
 use evc_inter::*;
+use std::error::Error;
 use std::io;
 use std::mem::size_of;
 
@@ -42,7 +43,10 @@ fn padded() {
     }
     assert_eq!(padded.sides(), (12, 20));
     assert_eq!(samples(padded.picture()), samples(&straight));
-    assert_eq!(padded.clone().into_picture().pad().unwrap(), padded);
+    let again = padded.clone().into_picture().pad().unwrap();
+    assert!(again.samples() == padded.samples());
+    assert_eq!(*padded.picture(), straight);
+    assert!(padded.samples() != straight.samples());
 }
 
 /// A sample of 1024 at either end of each plane.
@@ -67,7 +71,7 @@ fn refused_samples() {
             let back = error.into_picture();
             assert_eq!(samples(&back), samples(&before));
             // Borders may be filled before the refused plane, and nowhere else.
-            assert_eq!(back.planes[c..], before.planes[c..]);
+            assert!(back.samples()[c..] == before.samples()[c..]);
         }
     }
 }
@@ -94,7 +98,9 @@ fn refused_planes() {
         let before = picture.clone();
         let error = picture.pad().unwrap_err();
         assert_eq!((error.refusal(), error.plane()), (Refusal::Buffer, at));
-        assert_eq!(error.into_picture(), before); // no border is filled
+        let back = error.into_picture();
+        assert!(back.samples() == before.samples()); // no border is filled
+        assert_eq!(back, before);
     }
     let exchanged = Picture {
         planes: [&luma, &chroma, &chroma].map(Plane::clone),
@@ -112,9 +118,57 @@ fn errors() {
     assert_eq!(Refusal::from(refused()), Refusal::Sample);
     let error = io::Error::from(refused());
     assert_eq!(error.kind(), io::ErrorKind::InvalidInput);
-    let inside = error.get_ref().unwrap().downcast_ref::<Refusal>();
-    assert_eq!(inside, Some(&Refusal::Sample));
+    assert_eq!(error.to_string(), refused().to_string());
+    let inside = error.get_ref().unwrap().downcast_ref::<PadError>();
+    assert_eq!(inside.unwrap().plane(), 1);
     let shown = format!("{:?}", refused());
     assert_eq!(shown, "PadError { plane: 1, refusal: Sample, .. }"); // and not the samples
     assert_eq!(size_of::<PadError>(), size_of::<usize>());
+}
+
+/// The refusal by each way that an error can be wrapped, and none where there is none.
+#[test]
+fn refusal_inside() {
+    let mut bad = picture(16, 8);
+    bad.planes[2].row_mut(0)[0] = 1024;
+    let bad = || bad.clone().pad().unwrap_err();
+    let reference = picture(16, 8).pad().unwrap();
+    let replayed = replay(b"IPT", [&reference; 2], None, &mut picture(16, 8));
+    let replayed = replayed.result().unwrap_err();
+    let errors: [(Box<dyn Error>, Option<Refusal>); 9] = [
+        (Refusal::List.into(), Some(Refusal::List)),
+        (bad().into(), Some(Refusal::Sample)),
+        (replayed.into(), Some(Refusal::Incomplete)),
+        (io::Error::from(Refusal::List).into(), Some(Refusal::List)),
+        (io::Error::from(bad()).into(), Some(Refusal::Sample)),
+        (io::Error::from(replayed).into(), Some(Refusal::Incomplete)),
+        (
+            io::Error::other(io::Error::from(bad())).into(),
+            Some(Refusal::Sample),
+        ),
+        (io::Error::from(io::ErrorKind::StorageFull).into(), None),
+        (UnknownRefusal(8).into(), None),
+    ];
+    for (error, want) in errors {
+        assert_eq!(Refusal::of(&*error), want, "{error}");
+    }
+    assert_eq!(Refusal::from(replayed), Refusal::Incomplete);
+    let error = io::Error::from(replayed);
+    assert_eq!(error.kind(), io::ErrorKind::InvalidInput);
+    assert_eq!(error.to_string(), replayed.to_string());
+    let source = bad().source().unwrap().to_string();
+    assert_eq!(source, Refusal::Sample.to_string());
+    let source = replayed.source().unwrap().to_string();
+    assert_eq!(source, Refusal::Incomplete.to_string());
+}
+
+/// A message about pictures is short.
+#[test]
+fn shown_without_samples() {
+    let plane = |chroma| format!("Plane {{ chroma: {chroma}, pic_w: 16, pic_h: 8, .. }}");
+    let [luma, chroma] = [plane(false), plane(true)];
+    let shown = format!("Picture {{ planes: [{luma}, {chroma}, {chroma}] }}");
+    assert_eq!(format!("{:?}", picture(16, 8)), shown);
+    let padded = picture(16, 8).pad().unwrap();
+    assert_eq!(format!("{padded:?}"), format!("PaddedPicture({shown})"));
 }

@@ -77,6 +77,9 @@ fn as_the_call() {
         let [planes0, planes1] = pictures.each_ref().map(PaddedPicture::samples);
         let (mut pred0, mut pred1) = ([0; CU_LEN], [0; CU_LEN]);
         let [list0, list1] = lists.map(list);
+        assert_eq!(lists.map(EvcList::from), [list0, list1]);
+        let given = EvcList::from(references[0]);
+        assert_eq!(given, list(Some(references[0])));
         evc_mc2(
             block, list0, planes0, list1, planes1, &mut pred0, &mut pred1,
         )
@@ -94,13 +97,16 @@ fn as_the_call() {
             assert_eq!(prediction.rows(c).collect::<Vec<_>>().concat(), want);
             let half = if c == 0 { 1 } else { 2 };
             let [x, y, w, h] = [x, y, w, h].map(|n| (n / half) as usize);
-            assert_eq!(prediction.rows(c).count(), h);
+            assert_eq!(prediction.rows(c).len(), h);
+            let mut from_bottom = prediction.rows(c).rev();
+            assert_eq!(from_bottom.next().unwrap(), &want[(h - 1) * w..]);
+            assert_eq!(from_bottom.count(), h - 1);
             // Every sample of the buffer: the block's in its place, all others as before.
             let mut want_put = before.planes[c].clone();
             for j in 0..h {
                 want_put.row_mut(y + j)[x..x + w].copy_from_slice(&want[j * w..][..w]);
             }
-            assert_eq!(target.planes[c], want_put);
+            assert!(target.planes[c].samples() == want_put.samples());
         }
     }
 }
@@ -225,4 +231,13 @@ fn put_into_exchanged_planes() {
 #[test]
 fn shown_without_samples() {
     assert_eq!(format!("{:?}", Predictor::new()), "Predictor { .. }");
+    let picture = &Lcg(1).picture(32, 16);
+    let (mv, poc) = (EvcMv::default(), 0);
+    let reference = Reference { picture, mv, poc };
+    let mut predictor = Predictor::new();
+    let prediction = predictor.predict(BLOCK, [Some(reference), None]);
+    let shown = format!("Prediction {{ block: {BLOCK:?}, .. }}");
+    assert_eq!(format!("{:?}", prediction.unwrap()), shown);
+    let shown = format!("Reference {{ picture: {picture:?}, mv: {mv:?}, poc: 0 }}");
+    assert_eq!(format!("{reference:?}"), shown);
 }

@@ -113,6 +113,30 @@ fn header_bytes() {
     assert_eq!(trace.into_inner(), want);
 }
 
+/// The same bytes by a header; the writer can be reached, and its trace goes on behind what it has.
+#[test]
+fn with_header() {
+    let header = TraceHeader {
+        pic_w: 416,
+        pic_h: 240,
+        poc: 4,
+        list_poc0: 258,
+    };
+    let mut trace = TraceWriter::with_header(Vec::new(), &header).unwrap();
+    let want = TraceWriter::new(Vec::new(), 416, 240, 4, 258).unwrap();
+    assert_eq!(trace.get_ref(), want.get_ref());
+    trace.get_mut().push(7);
+    let motion = TraceMotion::Direct { poc: [0, 8] };
+    let (x, y, w, h) = (0, 0, 4, 4);
+    let record = TraceRecord { x, y, w, h, motion };
+    trace.record(record).unwrap();
+    assert_eq!(trace.get_ref()[TRACE_HEADER_LEN], 7);
+    assert_eq!(trace.into_inner().len(), record_at(1) + 1);
+
+    let error = TraceWriter::with_header(Vec::new(), &TraceHeader::default()).unwrap_err();
+    assert_eq!(Refusal::of(&error), Some(Refusal::Picture));
+}
+
 /// "x, y, w, h, 16 bits each; a kind byte (0 list 0, 1 list 1, 2 both, 3 direct with both lists);
 /// two vectors; two reference counts; a zero byte: 22 bytes"
 #[test]
@@ -171,7 +195,7 @@ fn one_after_another() {
     for (n, want) in pictures.iter().enumerate() {
         let (replay, target) = replayed(&trace[..record_at(n)]);
         assert_eq!(replay.result(), Ok(n as u64));
-        assert!(target == *want, "after {n} records");
+        assert!(target.samples() == want.samples(), "after {n} records");
     }
     assert_eq!(replayed(&trace).0.to_string(), "40 records finished");
 }
@@ -188,7 +212,10 @@ fn refused_inside() {
             let (replay, target) = replayed(bytes);
             assert_eq!((replay.finished, replay.refusal), (n as u64, Some(refusal)));
             assert_eq!(replay.result().unwrap_err().record, Some(n as u64));
-            assert!(target == *want, "{refusal:?} in record {n}");
+            assert!(
+                target.samples() == want.samples(),
+                "{refusal:?} in record {n}"
+            );
         }
     }
     let (replay, _) = replayed(&trace[..record_at(1) + 21]);
@@ -219,7 +246,7 @@ fn refused_before() {
         assert_eq!(replay.finished, 0);
         let said = "0 records finished; before the first record: refused";
         assert!(replay.to_string().starts_with(said), "{replay}");
-        assert!(target == grey());
+        assert!(target.samples() == grey().samples());
     }
 }
 
@@ -255,7 +282,7 @@ fn exchanged_planes() {
         let before = target.clone();
         let replay = replay(&trace, [&reference; 2], None, &mut target);
         assert_eq!(replay.refusal, Some(Refusal::Buffer), "{c}");
-        assert_eq!(target, before);
+        assert!(target.samples() == before.samples());
     }
 }
 
@@ -309,7 +336,7 @@ fn no_room() {
 fn writer_errors() {
     let refusal = |error: io::Error| {
         assert_eq!(error.kind(), io::ErrorKind::InvalidInput);
-        *error.get_ref().unwrap().downcast_ref::<Refusal>().unwrap()
+        Refusal::of(&error).unwrap()
     };
     for (pic_w, poc, list_poc0, want) in [
         (50, 4, 0, Refusal::Picture),
