@@ -1,7 +1,8 @@
 /* Predicts a block from half a sample to its right, and notes why another block is refused.
+   With what is installed by 'evc install', and in the repository:
 
-     gcc -std=c99 -I include examples/predict.c target/staticlib/libevc_inter.a -o predict
-     gcc -std=c99 predict.c $(pkg-config --cflags --libs evc_inter) -o predict      where it is installed */
+     gcc -std=c99 predict.c $(pkg-config --cflags --libs evc_inter) -o predict
+     gcc -std=c99 -I include examples/predict.c target/staticlib/libevc_inter.a -o predict */
 #include <inttypes.h>
 #include <stdio.h>
 #include <stdlib.h>

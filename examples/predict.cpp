@@ -1,7 +1,8 @@
 // Predicts a block from half a sample to its right, and notes why another block is refused.
+// With what is installed by 'evc install', and in the repository:
 //
+//   g++ -std=c++11 predict.cpp $(pkg-config --cflags --libs evc_inter) -o predict
 //   g++ -std=c++11 -I include examples/predict.cpp target/staticlib/libevc_inter.a -o predict
-//   g++ -std=c++11 predict.cpp $(pkg-config --cflags --libs evc_inter) -o predict      where it is installed
 #include "evc_inter.h"
 #include <iostream>
 #include <stdexcept>

@@ -17,6 +17,16 @@ fn header() -> String {
     header
 }
 
+/// The header's version is the crate's.
+#[test]
+fn version() {
+    let line = format!(
+        "#define EVC_INTER_VERSION \"{}\"\n",
+        env!("CARGO_PKG_VERSION")
+    );
+    assert!(header().contains(&line), "{line}");
+}
+
 /// Each message, without its number, is a text of `evc_message`.
 #[test]
 fn messages() {

@@ -195,7 +195,7 @@ const EXITS: [(&str, &str); 5] = [
 
 pub fn version() -> String {
     let version = env!("CARGO_PKG_VERSION");
-    format!("evc {version}\nwith the proved calls of documents 01 and 02 (W1, W3, W4, W6)\n")
+    format!("evc {version}, with the proved calls of documents 01 and 02 (W1, W3, W4, W6)\n")
 }
 
 /// Words on lines of at most 100 columns, each behind some blanks.

@@ -112,16 +112,18 @@ static void units(void) {
     for (uint32_t row = 0; row < H; row += 4)
         for (uint32_t x = 0; x < W; x += 4) {
             const EvcBlock block = {W, H, x, row, 4, 4};
-            int16_t *mv = map + EVC_MOTION_LEN * evc_unit_at(W, x + 3, row + 3);
+            int16_t *mv = map + EVC_MOTION_LEN * evc_unit_at(W, H, x + 3, row + 3);
             mv[0] = 8, mv[1] = -16;
             EvcDirect direct = evc_get_mv_dir(block, 4, 0, 8, 0, true, map, evc_map_mv_len(W, H));
             HOLDS(direct.mv0.x == 4 && direct.mv0.y == -8);
             mv[0] = mv[1] = 0;
         }
-    HOLDS(evc_unit_at(W, W, 4) == 0 && evc_unit_at(W, 4, UINT32_MAX) == 0 && evc_unit_at(18, 4, 4) == 0);
+    HOLDS(evc_unit_at(W, H, W - 1, H - 1) == UNITS - 1);
+    HOLDS(evc_unit_at(W, H, W, 4) == 0 && evc_unit_at(W, H, 4, H) == 0 && evc_unit_at(W, H, 4, UINT32_MAX) == 0);
+    HOLDS(evc_unit_at(18, H, 4, 4) == 0 && evc_unit_at(W, 10, 4, 4) == 0 && evc_unit_at(W, UINT32_MAX, 4, 4) == 0);
 }
 
-/* A block of 8 by 4 between its eight neighbours: each flag comes from its own unit. */
+/* A block of 8 by 4 between its eight neighbours: each flag comes from its own unit, and two need no coded one. */
 static void flags(void) {
     const EvcBlock block = {16, 12, 4, 4, 8, 4};
     const struct { uint32_t x, y; uint16_t flag, with; } of[] = {
@@ -132,12 +134,42 @@ static void flags(void) {
     uint32_t words[12];
     for (size_t i = 0; i < sizeof of / sizeof *of; i++) {
         for (size_t k = 0; k < 12; k++) words[k] = EVC_SCU_CODED | EVC_SCU_INTRA;
-        words[evc_unit_at(16, of[i].x, of[i].y)] = EVC_SCU_CODED;
+        words[evc_unit_at(16, 12, of[i].x, of[i].y)] = EVC_SCU_CODED;
         HOLDS(evc_get_avail_inter(block, words, 12).avail == (of[i].with ? 0 : of[i].flag));
         if (of[i].with) {
-            words[evc_unit_at(16, of[i].x, 4)] = EVC_SCU_CODED;
+            words[evc_unit_at(16, 12, of[i].x, 4)] = EVC_SCU_CODED;
             HOLDS(evc_get_avail_inter(block, words, 12).avail == (of[i].flag | of[i].with));
         }
+    }
+    memset(words, 0, sizeof words);
+    HOLDS(evc_get_avail_inter(block, words, 12).avail == (EVC_AVAIL_UP | EVC_AVAIL_RI_UP));
+}
+
+/* A window of 9 by 9 samples, in chroma 7 by 7, from its first column and row, seen from the picture's first sample: a
+   sample above the largest is found at its corners, and not beside them. */
+static void window(void) {
+    const struct { bool chroma; int16_t gmv; int x, y; } of[] = {
+        {false, 0, -2, -2}, {false, 7, -1, -1}, {false, INT16_MIN, -80, -80}, {false, INT16_MAX, 8, 8},
+        {true, 0, -1, -1},  {true, 15, 0, 0},   {true, INT16_MIN, -48, -40},  {true, INT16_MAX, 4, 4},
+    };
+    static uint16_t plane[LUMA];
+    for (size_t i = 0; i < sizeof of / sizeof *of; i++) {
+        const EvcPlaneLayout p = evc_plane_layout(of[i].chroma, 8, 8);
+        const int side = of[i].chroma ? 7 : 9, places[] = {-1, 0, side - 1, side};
+        for (int row = 0; row < 4; row++)
+            for (int x = 0; x < 4; x++) {
+                const int at_x = (int)p.xorigin + of[i].x + places[x], at_y = (int)p.yorigin + of[i].y + places[row];
+                if (at_x < 0 || at_y < 0) continue; /* the plane begins with the window */
+                const size_t at = (size_t)at_y * p.stride + (size_t)at_x;
+                const EvcMv gmv = {of[i].gmv, of[i].gmv};
+                const uint32_t code = x % 3 != 0 && row % 3 != 0 ? EVC_BAD_SAMPLE : EVC_OK;
+                plane[at] = EVC_MAX_SAMPLE + 1;
+                for (int16_t path = 0; path < 2; path++) {
+                    const EvcMv ori_mv = {path, path};
+                    HOLDS(evc_mc_plane(of[i].chroma, 8, 8, ori_mv, gmv, 4, 4, plane, p.len, pred0, CU) == code);
+                }
+                plane[at] = 0;
+            }
     }
 }
 
@@ -171,6 +203,130 @@ static void predicted(void) {
     HOLDS(evc_cu_at(2, 64, 0, 32) == 0 && evc_cu_at(0, 64, 1, SIZE_MAX) == 0);
 }
 
+/* The target planes, and others to compare them with. */
+static uint16_t put_y[LUMA], put_u[CHROMA], put_v[CHROMA];
+
+static void clear(void) {
+    grey(y, LUMA, 9), grey(u, CHROMA, 9), grey(v, CHROMA, 9);
+    grey(put_y, LUMA, 9), grey(put_u, CHROMA, 9), grey(put_v, CHROMA, 9);
+}
+
+static bool equal(void) {
+    return !memcmp(y, put_y, sizeof y) && !memcmp(u, put_u, sizeof u) && !memcmp(v, put_v, sizeof v);
+}
+
+/* A block is one where evc_mv_clip takes it, and no other is put into a picture. */
+static void blocks(void) {
+    const uint32_t sides[] = {0, 4, 8, 10, EVC_MAX_SIDE, EVC_MAX_SIDE + 4, UINT32_MAX - 3};
+    const uint32_t places[] = {0, 2, 4, 8, UINT32_MAX - 3}, of[] = {0, 2, 4, 8, 12, 16, 32, 64, 128, UINT32_MAX - 3};
+    const EvcMv none = {0, 0};
+    size_t taken = 0;
+    clear();
+    grey(pred0, CU, 5);
+#define EACH(n, list) for (size_t n = 0; n < sizeof(list) / sizeof *(list); n++)
+    EACH(pic_w, sides) EACH(pic_h, sides) EACH(x, places) EACH(row, places) EACH(w, of) EACH(h, of) {
+        const EvcBlock b = {sides[pic_w], sides[pic_h], places[x], places[row], of[w], of[h]};
+        const bool is_block = evc_mv_clip(b, none).code == EVC_OK;
+        HOLDS(evc_is_block(b) == is_block);
+        if (is_block) taken++;
+        /* Small ones, which would be seen in these planes. */
+        else if (b.pic_w <= 10 && b.pic_h <= 10 && b.w <= 64 && b.h <= 64) evc_cu_put(b, pred0, y, u, v);
+    }
+    HOLDS(taken > 100 && equal());
+}
+
+/* Samples that differ from their neighbours and from those of other planes. */
+static void mixed(uint16_t *plane, size_t len, size_t by) {
+    for (size_t k = 0; k < len; k++) plane[k] = (uint16_t)(k * by % (EVC_MAX_SAMPLE + 1));
+}
+
+/* What evc_mc2 and evc_get_mv_dir are given becomes a record. Replay gives their number, and where they are done the
+   picture that evc_cu_put makes. */
+static void records(void) {
+    const EvcBlock of[] = {
+        {8, 8, 0, 0, 4, 4}, {8, 8, 4, 4, 4, 4}, {8, 8, 4, 0, 4, 8}, {8, 8, 0, 4, 8, 4}, {8, 8, 0, 0, 8, 8},
+        {8, 8, 2, 0, 4, 4}, {8, 8, 8, 0, 4, 4}, {8, 8, 65535, 0, 4, 4},
+        /* each of these is good if the upper bits are lost */
+        {8, 8, 65536 + 4, 0, 4, 4}, {8, 8, 0, 65536 + 4, 4, 4}, {8, 8, 0, 0, 65536 + 4, 4}, {8, 8, 0, 0, 4, 65536 + 4},
+        {8, 8, UINT32_MAX - 3, UINT32_MAX - 3, 4, 4},
+    };
+    const uint32_t pocs[] = {0, 8, EVC_MAX_POC, EVC_MAX_POC + 1, 65535, 65536 + 8, UINT32_MAX - 7};
+    const int16_t col[16] = {8, -16, 0, 0, 4, 3, 0, 0, -9, 1, 0, 0, 2, 5, 0, 0};
+    uint8_t trace[EVC_TRACE_HEADER_LEN + EVC_TRACE_RECORD_LEN], *const record = trace + EVC_TRACE_HEADER_LEN;
+    size_t done = 0, bad_block = 0, bad_poc = 0;
+    mixed(y0, LUMA, 37), mixed(u0, CHROMA, 53), mixed(v0, CHROMA, 71);
+    mixed(y1, LUMA, 89), mixed(u1, CHROMA, 107), mixed(v1, CHROMA, 131);
+    HOLDS(evc_trace_write_header(8, 8, 4, 0, trace, sizeof trace) == EVC_OK);
+    EACH(i, of) EACH(k0, pocs) EACH(k1, pocs) for (unsigned used = 0; used < 5; used++) {
+        const bool direct = used == 4;
+        EvcList list0 = {used & 1 || direct, {5, -2}, pocs[k0]}, list1 = {used & 2 || direct, {-3, 6}, pocs[k1]};
+        EvcTraceRecord kept = evc_trace_record(of[i], list0, list1);
+        uint32_t code = EVC_OK;
+        if (direct) {
+            const EvcDirect mv = evc_get_mv_dir(of[i], 4, pocs[k0], pocs[k1], 0, true, col, 16);
+            kept = evc_trace_direct(of[i], pocs[k0], pocs[k1]);
+            code = mv.code;
+            list0.mv = mv.mv0, list1.mv = mv.mv1;
+        }
+        if (code == EVC_OK) code = evc_mc2(of[i], list0, PLANES0, list1, PLANES1, pred0, CU, pred1, CU);
+        const uint32_t written = evc_trace_write_record(8, 8, kept, record, EVC_TRACE_RECORD_LEN);
+        if (used == 0) {
+            HOLDS(kept.kind == 255 && written == EVC_BAD_RECORD && (code == EVC_BAD_LIST || code == EVC_BAD_BLOCK));
+            continue;
+        }
+        clear();
+        if (code == EVC_OK) evc_cu_put(of[i], pred0, put_y, put_u, put_v);
+        const EvcReplay r = evc_trace_replay(trace, sizeof trace, PLANES0, PLANES1, true, col, 16,
+                                             y, LUMA, u, CHROMA, v, CHROMA);
+        HOLDS(written == EVC_OK && r.code == code && equal());
+        HOLDS(kept.kind == (direct ? EVC_TRACE_DIRECT : used - 1));
+        done += code == EVC_OK, bad_block += code == EVC_BAD_BLOCK, bad_poc += code == EVC_BAD_POC;
+    }
+    HOLDS(done > 0 && bad_block > 0 && bad_poc > 0);
+
+    /* A count of the header that is too large is refused with a direct record only. */
+    const EvcList list0 = {true, {5, -2}, 0}, unused = {false, {0, 0}, 0};
+    const EvcTraceRecord with[] = {evc_trace_record(of[0], list0, unused), evc_trace_direct(of[0], 0, 8)};
+    HOLDS(evc_trace_write_header(8, 8, EVC_MAX_POC + 1, 0, trace, sizeof trace) == EVC_OK);
+    EACH(i, with) {
+        HOLDS(evc_trace_write_record(8, 8, with[i], record, EVC_TRACE_RECORD_LEN) == EVC_OK);
+        const EvcReplay r = evc_trace_replay(trace, sizeof trace, PLANES0, PLANES1, true, col, 16,
+                                             y, LUMA, u, CHROMA, v, CHROMA);
+        HOLDS(r.code == (i == 0 ? EVC_OK : EVC_BAD_POC));
+    }
+}
+
+/* A header with any byte changed, whole or cut off, reads as replay takes it, and is written again as it was. */
+static void headers(void) {
+    enum { HEADER = EVC_TRACE_HEADER_LEN };
+    uint8_t good[HEADER], changed[HEADER], again[HEADER];
+    size_t taken = 0;
+    HOLDS(evc_trace_write_header(8, 8, 0x1234, 0x5678, good, HEADER) == EVC_OK);
+    for (size_t at = 0; at < HEADER; at++)
+        for (unsigned value = 0; value < 256; value++)
+            for (size_t len = 0; len <= HEADER; len++)
+                for (uint8_t version = 0; version < 2; version++) {
+                    memcpy(changed, good, HEADER);
+                    changed[3] = version;
+                    changed[at] = (uint8_t)value;
+                    const EvcTraceHeader h = evc_trace_header_of(changed, len);
+                    const EvcReplay r = evc_trace_replay(changed, len, PLANES0, PLANES1, false, NULL, 0,
+                                                         y, LUMA, u, CHROMA, v, CHROMA);
+                    if (h.code != EVC_OK) {
+                        HOLDS(r.code == h.code && h.pic_w == 0 && h.pic_h == 0 && h.poc == 0 && h.list_poc0 == 0);
+                        continue;
+                    }
+                    const bool fits = evc_plane_layout(false, h.pic_w, h.pic_h).len <= LUMA
+                        && evc_plane_layout(true, h.pic_w, h.pic_h).len <= CHROMA;
+                    HOLDS(r.code == (fits ? EVC_OK : EVC_SHORT_BUFFER));
+                    HOLDS(evc_trace_write_header(h.pic_w, h.pic_h, h.poc, h.list_poc0, again, HEADER) == EVC_OK);
+                    HOLDS(!memcmp(changed, again, HEADER));
+                    taken++;
+                }
+    HOLDS(taken > 4 * 256);
+    HOLDS(evc_trace_header_of(NULL, 0).code == EVC_INCOMPLETE);
+}
+
 /* Each kind takes the fields that are its own: vector and count of list 0, of list 1, both, and both counts alone. */
 static void kinds(void) {
     enum { SHAPES = 4 };
@@ -198,7 +354,7 @@ int main(void) {
     EvcMv none = {0, 0};
     const EvcPlaneLayout luma = evc_plane_layout(false, 8, 8), chroma = evc_plane_layout(true, 8, 8);
 
-    messages(), planes(), units(), flags(), predicted(), kinds();
+    messages(), planes(), units(), flags(), window(), predicted(), blocks(), kinds(), records(), headers();
 
     uint32_t words[4] = {0};
     HOLDS(evc_get_avail_inter(b, words, 4).avail == (EVC_AVAIL_UP | EVC_AVAIL_RI_UP));
@@ -256,6 +412,17 @@ int main(void) {
     HOLDS(evc_mc2(b, unused, EMPTY, list1, PLANES1, pred0, CU, pred1, CU) == EVC_OK);
     HOLDS(pred0[EVC_CU_U] == 4);
 
+    /* Two equal lists: the second gives nothing, but is in use. */
+    EvcList equal1 = list0;
+    grey(pred1, CU, 9);
+    HOLDS(evc_mc2(b, list0, PLANES0, equal1, PLANES1, pred0, CU, pred1, CU) == EVC_OK);
+    HOLDS(pred0[0] == 3 && pred1[0] == 9);
+    code = evc_mc2(b, list0, PLANES0, equal1, y1, LUMA, u1, CHROMA, v1, CHROMA - 1, pred0, CU, pred1, CU);
+    HOLDS(code == EVC_SHORT_BUFFER);
+    v1[evc_plane_at(&chroma, 2, 2)] = 1024;
+    HOLDS(evc_mc2(b, list0, PLANES0, equal1, PLANES1, pred0, CU, pred1, CU) == EVC_BAD_SAMPLE);
+    v1[evc_plane_at(&chroma, 2, 2)] = 4;
+
     /* A trace of two records: list 0 as above, and direct in the upper left. */
     enum { HEADER = EVC_TRACE_HEADER_LEN, RECORD = EVC_TRACE_RECORD_LEN, TRACE = HEADER + 2 * RECORD };
     uint8_t trace[TRACE + 1], *first = trace + HEADER, *second = first + RECORD;
@@ -276,7 +443,7 @@ int main(void) {
     HOLDS(evc_trace_write_header(8, 8, 4, 0, trace, HEADER) == EVC_OK);
     HOLDS(evc_trace_write_record(8, 8, direct8, second, RECORD) == EVC_OK && trace[TRACE] == 9);
 
-    grey(y, LUMA, 9), grey(u, CHROMA, 9), grey(v, CHROMA, 9);
+    clear();
 #define REPLAY(trace_len, y0_len, v_len) \
     evc_trace_replay(trace, trace_len, y0, y0_len, u0, CHROMA, v0, CHROMA, PLANES1, true, col, 16, \
                      y, LUMA, u, CHROMA, v, v_len)

@@ -19,8 +19,8 @@ int main() {
     const std::vector<uint32_t> words(evc_map_scu_len(8, 8), EVC_SCU_CODED);
     std::vector<int16_t> map(evc_map_mv_len(8, 8));
     for (size_t k = 0; k < evc_unit_count(8, 8); k++) map[EVC_MOTION_LEN * k] = 4;
-    map[EVC_MOTION_LEN * evc_unit_at(8, 0, 4) + 1] = 7;
-    map[EVC_MOTION_LEN * evc_unit_at(8, 4, 4)] = 12;
+    map[EVC_MOTION_LEN * evc_unit_at(8, 8, 0, 4) + 1] = 7;
+    map[EVC_MOTION_LEN * evc_unit_at(8, 8, 4, 4)] = 12;
 
     const EvcPlaneLayout luma = evc_plane_layout(false, 8, 8);
     std::vector<uint16_t> y0 = plane(false, 3), y1 = plane(false, 4), y = plane(false, 9);
@@ -53,14 +53,21 @@ int main() {
                   y1.size(), u1.data(), u1.size(), u1.data(), u1.size(), pred0.data(), pred0.size(), pred1.data(),
                   pred1.size()) == EVC_OK);
     HOLDS(pred0[evc_cu_at(0, 4, 3, 3)] == 4 && pred1[evc_cu_at(2, 4, 0, 0)] == 4); // the average of 3 and 4
+    evc_cu_put(block, pred1.data(), y.data(), u.data(), v.data());
+    HOLDS(evc_is_block(block) && y[evc_plane_at(&luma, 7, 7)] == 4 && y[evc_plane_at(&luma, 3, 3)] == 9);
+    y[evc_plane_at(&luma, 4, 4)] = 9;
     const uint32_t refused = evc_mc2(block, unused, nullptr, 0, nullptr, 0, nullptr, 0, unused, nullptr, 0, nullptr, 0,
                                      nullptr, 0, pred0.data(), pred0.size(), pred1.data(), pred1.size());
     HOLDS(refused == EVC_BAD_LIST && std::strstr(evc_message(refused), "refers to no picture") != nullptr);
 
     std::vector<uint8_t> trace(EVC_TRACE_HEADER_LEN + EVC_TRACE_RECORD_LEN);
-    const EvcTraceRecord record = {4, 4, 4, 4, EVC_TRACE_LIST1, {0, 0}, {0, 0}, 0, 8};
+    const EvcTraceRecord record = evc_trace_record(block, unused, list1), in_direct = evc_trace_direct(block, 0, 65536);
+    HOLDS(record.kind == EVC_TRACE_LIST1 && record.poc1 == 8);
+    HOLDS(in_direct.kind == EVC_TRACE_DIRECT && in_direct.poc1 == 65535);
     HOLDS(evc_trace_write_header(8, 8, 4, 0, trace.data(), trace.size()) == EVC_OK);
     HOLDS(evc_trace_write_record(8, 8, record, trace.data() + EVC_TRACE_HEADER_LEN, EVC_TRACE_RECORD_LEN) == EVC_OK);
+    const EvcTraceHeader header = evc_trace_header_of(trace.data(), trace.size());
+    HOLDS(header.code == EVC_OK && header.pic_w == 8 && header.poc == 4);
     const EvcReplay replay =
         evc_trace_replay(trace.data(), trace.size(), y0.data(), y0.size(), u0.data(), u0.size(), u0.data(), u0.size(),
                          y1.data(), y1.size(), u1.data(), u1.size(), u1.data(), u1.size(), false, nullptr, 0,
