@@ -165,18 +165,10 @@ fn as_people_type_them() {
 #[test]
 fn nobody_reads_on() {
     let folder = Folder::new();
-    let mut command = folder.command("predict --size 32x16");
-    let mut child = command
-        .stdout(Stdio::piped())
-        .stderr(Stdio::piped())
-        .spawn()
-        .unwrap();
-    drop(child.stdout.take());
-    Run::from(child.wait_with_output().unwrap()).done();
-    assert_eq!(folder.names("evc-out/scene").len(), 13);
+    let predict = "predict --size 32x16";
     // The camera has nothing to do but to tell, so it ends too, though these files do not.
     let endless = "camera --size 4x4 /dev/zero /dev/zero";
-    for line in ["--help", "predict --help", "man", endless] {
+    for line in [predict, "--help", "predict --help", "man", endless] {
         let mut command = folder.command(line);
         let mut child = command
             .stdout(Stdio::piped())
@@ -186,6 +178,7 @@ fn nobody_reads_on() {
         drop(child.stdout.take());
         Run::from(child.wait_with_output().unwrap()).done();
     }
+    assert_eq!(folder.names("evc-out/scene").len(), 13);
 }
 
 fn full() -> File {
