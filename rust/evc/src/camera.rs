@@ -4,7 +4,7 @@ use crate::args::Given;
 use crate::json::Json;
 use crate::replay::opened;
 use crate::report::{Console, Failure, Outcome, Result};
-use evc_inter::{evc_camera_motion, CameraMotion, PlaneConfig};
+use evc_inter::{evc_camera_motion, map_mv_len, map_scu_len, CameraMotion};
 use std::io::{BufReader, Read};
 use std::path::{Path, PathBuf};
 
@@ -58,10 +58,9 @@ fn outcome(k: u64, motion: CameraMotion) -> Outcome {
 fn pictures(console: &mut Console, sides: (u32, u32), item: &str, pair: &[PathBuf]) -> Result<()> {
     let [mut motion, mut words] = [Numbers::open(&pair[0])?, Numbers::open(&pair[1])?];
     // A side that no call takes has no units, and is refused by the call.
-    let units =
-        PlaneConfig::new(false, sides.0, sides.1).map_or(0, |cfg| cfg.width / 4 * (cfg.height / 4));
+    let [numbers, units] = [map_mv_len, map_scu_len].map(|len| len(sides.0, sides.1).unwrap_or(0));
     for k in 0.. {
-        let map_mv = motion.read(4 * units, i16::from_le_bytes)?;
+        let map_mv = motion.read(numbers, i16::from_le_bytes)?;
         let map_scu = words.read(units, u32::from_le_bytes)?;
         if k > 0 && motion.is_at_end && words.is_at_end {
             break;

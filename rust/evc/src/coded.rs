@@ -3,7 +3,7 @@
 use crate::call::{Call, List};
 use crate::report::{Console, Failure, Result};
 use evc_inter::{evc_get_mv_dir, evc_mv_clip, EvcBlock, EvcList, EvcMv, Flip, PaddedPicture};
-use evc_inter::{Picture, Predictor, Refusal, TraceRecord, TraceWriter};
+use evc_inter::{Picture, Predictor, Refusal, TraceRecord, TraceWriter, MOTION_LEN, SCU_CODED};
 use std::collections::BTreeMap;
 use std::fmt;
 
@@ -172,16 +172,16 @@ pub fn trace(references: &References, blocks: &[Coded]) -> Result<Vec<u8>> {
 pub fn maps((w, h): (u32, u32), blocks: &[Coded]) -> (Vec<i16>, Vec<u32>) {
     let columns = (w / 4) as usize;
     let units = columns * (h / 4) as usize;
-    let (mut map_mv, mut map_scu) = (vec![0; 4 * units], vec![0; units]);
+    let (mut map_mv, mut map_scu) = (vec![0; MOTION_LEN * units], vec![0; units]);
     for Coded { block: b, kind, mv } in blocks {
         let [x, y, w, h] = [b.x, b.y, b.w, b.h].map(|n| (n / 4) as usize);
-        let unit = [0, 1].map(|list| match kind.uses(list) {
-            true => [mv[list].x, mv[list].y],
+        let motion = [0, 1].map(|list| match kind.uses(list) {
+            true => mv[list].into(),
             false => [0; 2],
         });
         for at in (y..y + h).flat_map(|row| (x..x + w).map(move |column| row * columns + column)) {
-            map_mv[4 * at..4 * at + 4].copy_from_slice(unit.as_flattened());
-            map_scu[at] = 1 << 31; // coded, not intra
+            map_mv[MOTION_LEN * at..][..MOTION_LEN].copy_from_slice(motion.as_flattened());
+            map_scu[at] = SCU_CODED;
         }
     }
     (map_mv, map_scu)
@@ -281,12 +281,12 @@ mod tests {
     fn in_maps() {
         let blocks = [coded(0, Kind::List1), coded(8, Kind::Both)];
         let (map_mv, map_scu) = maps((16, 8), &blocks);
-        assert_eq!(map_scu, [1 << 31; 8]);
+        assert_eq!(map_scu, [SCU_CODED; 8]);
         let (first, second) = ([0, 0, 0, 3], [5, -400, 0, 3]);
         let row = [first, first, second, second].concat();
         assert_eq!(map_mv, [&row[..], &row].concat());
         let (_, map_scu) = maps((16, 8), &blocks[1..]);
-        assert_eq!(map_scu[..4], [0, 0, 1 << 31, 1 << 31]);
+        assert_eq!(map_scu[..4], [0, 0, SCU_CODED, SCU_CODED]);
     }
 
     #[test]

@@ -69,9 +69,7 @@ fn turned(trace: &[u8], flip: Flip, col_mv: Option<&[i16]>) -> Result<(Vec<u8>, 
     let reader = TraceReader::new(trace).map_err(Failure::at("before the first record"))?;
     let header = *reader.header();
     let failed = |e: io::Error| Failure::File(e.to_string());
-    let counts = (u32::from(header.poc), u32::from(header.list_poc0));
-    let (w, h) = (header.pic_w, header.pic_h);
-    let mut out = TraceWriter::new(Vec::new(), w, h, counts.0, counts.1).map_err(failed)?;
+    let mut out = TraceWriter::with_header(Vec::new(), &header).map_err(failed)?;
     let mut direct = 0;
     for record in reader {
         let at = || Failure::at(format!("record {}", out.records()));

@@ -5,16 +5,13 @@ use crate::report::{Failure, Result};
 use crate::scene;
 use crate::search::{Search, Vectors};
 use crate::y4m::{Clip, Header, PLANES};
-use evc_inter::{EvcMv, PaddedPicture, Picture};
+use evc_inter::{EvcMv, PaddedPicture, Picture, MAX_POC};
 use std::path::Path;
 
 /// When the scene is shown: order counts of the references, and that of the picture between them. Their
 /// distances meet every path of the filter.
 const SCENE_POC: [u32; 2] = [2, 7];
 const SCENE_CURRENT: u32 = 4;
-
-/// The largest order count that a call takes.
-const MAX_POC: u64 = 32767;
 
 /// A picture and what it is predicted from.
 pub struct Material {
@@ -111,7 +108,7 @@ pub fn frames(path: &Path, n: u64) -> Result<Material> {
     let [other0, other1] = others.map(|k| first + u64::from(k));
     // Frames are the order counts; where these have no more room, their distances still do.
     let base = Some(first)
-        .filter(|first| first + 2 <= MAX_POC)
+        .filter(|first| first + 2 <= u64::from(MAX_POC))
         .unwrap_or(0) as u32;
     let mut references = References {
         pictures,

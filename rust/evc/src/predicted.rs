@@ -76,9 +76,10 @@ impl Predicted {
         } = &self.material.references;
         let mut target = coded::target(self.material.references.sides())?;
         let replay = evc_inter::replay(&self.trace, pictures.each_ref(), Some(col_mv), &mut target);
+        let is_same = target.samples() == self.picture.samples(); // borders too, which replay leaves
         let what = match (replay.refusal, difference(&target, &self.picture)) {
-            (None, None) => None,
             (Some(_), _) => Some(replay.to_string()),
+            (None, None) if !is_same => Some("the border is changed".into()),
             (None, difference) => difference,
         };
         let (records, bytes) = (self.blocks.len(), self.trace.len());

@@ -12,13 +12,13 @@ use crate::predicted::difference;
 use crate::report::{Console, Failure, Outcome, Result};
 use crate::y4m::{Clip, Header};
 use evc_inter::{EvcTraceRecord, Flip, PaddedPicture, Picture, Replay, TraceMotion, TraceReader};
-use evc_inter::{TRACE_HEADER_LEN, TRACE_RECORD_LEN};
+use evc_inter::{MAX_SIDE, MOTION_LEN, TRACE_HEADER_LEN, TRACE_RECORD_LEN};
 use std::fs::File;
 use std::io::{self, Read};
 use std::path::{Path, PathBuf};
 
 /// Units of the largest picture: no map of one picture is longer, and no trace without overlaps.
-const MOST_UNITS: usize = (8128 / 4) * (8128 / 4);
+const MOST_UNITS: usize = (MAX_SIDE as usize / 4).pow(2);
 
 /// A file or standard input, up to `most` bytes and one more.
 fn bytes(path: &Path, most: usize) -> Result<Vec<u8>> {
@@ -58,7 +58,7 @@ pub fn trace(path: &Path) -> Result<Vec<u8>> {
 
 /// A motion map of one picture; what is too short for it is refused by the call.
 pub fn motion(path: &Path) -> Result<Vec<i16>> {
-    let bytes = bytes(path, 2 * 4 * MOST_UNITS).map_err(of_file(path))?;
+    let bytes = bytes(path, 2 * MOTION_LEN * MOST_UNITS).map_err(of_file(path))?;
     let pairs = bytes.chunks_exact(2);
     Ok(pairs
         .map(|pair| i16::from_le_bytes([pair[0], pair[1]]))
@@ -126,30 +126,13 @@ impl Desk {
         let [first, second] = &self.references;
         let col_mv = self.col_mv.as_deref();
         let replay = evc_inter::replay(&trace, [first, second], col_mv, &mut target);
-        let is_full_range = self.header.is_full_range();
         folder.y4m("replayed", &self.header, &target)?;
-        let image = colour::image(&target, is_full_range);
+        let image = colour::image(&target, self.header.is_full_range());
         folder.png("replayed", &image)?;
-
-        let mut agrees = true;
-        if let Some(beside) = &self.beside {
-            let turned = self
-                .back
-                .map_or(target.clone(), |flip| target.flipped(flip));
-            let apart = match beside.sides() == turned.sides() {
-                true => difference(&turned, beside),
-                false => Some("pictures of two sizes".into()),
-            };
-            console.say(match &apart {
-                None => "beside it: equal sample for sample".into(),
-                Some(what) => format!("beside it: NOT equal: {what}"),
-            });
-            agrees = apart.is_none();
-            if beside.sides() == turned.sides() {
-                let images = [beside, &turned].map(|picture| colour::image(picture, is_full_range));
-                folder.png("side-by-side", &colour::side_by_side(&images))?;
-            }
-        }
+        let agrees = match &self.beside {
+            Some(beside) => self.set_beside(console, folder, beside, &target)?,
+            None => true,
+        };
         folder.said(console);
         let direct = direct(&trace, replay.finished);
         let without_map = match (direct, &self.col_mv) {
@@ -180,6 +163,31 @@ impl Desk {
             Some(_) => outcome.fact("equal", Json::Bool(agrees)),
             None => outcome,
         })
+    }
+
+    /// Whether the picture, turned back if that is asked for, is the one that it is set beside.
+    fn set_beside(
+        &self,
+        console: &mut Console,
+        folder: &mut Folder,
+        beside: &Picture,
+        target: &Picture,
+    ) -> Result<bool> {
+        let turned = self.back.map(|flip| target.flipped(flip));
+        let turned = turned.as_ref().unwrap_or(target);
+        if beside.sides() != turned.sides() {
+            console.say("beside it: NOT equal: pictures of two sizes");
+            return Ok(false);
+        }
+        let is_full_range = self.header.is_full_range();
+        let images = [beside, turned].map(|picture| colour::image(picture, is_full_range));
+        folder.png("side-by-side", &colour::side_by_side(&images))?;
+        let apart = difference(turned, beside);
+        console.say(match &apart {
+            None => "beside it: equal sample for sample".into(),
+            Some(what) => format!("beside it: NOT equal: {what}"),
+        });
+        Ok(apart.is_none())
     }
 
     /// What helps to find out why a trace was refused.

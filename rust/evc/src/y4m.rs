@@ -2,7 +2,7 @@
 
 use crate::report::{Failure, Result};
 use crate::shell::quoted_file;
-use evc_inter::{Flip, Picture};
+use evc_inter::{Flip, Picture, MAX_SIDE};
 use std::fs::File;
 use std::io::{self, BufRead, BufReader, Read, Write};
 use std::path::{Path, PathBuf};
@@ -169,7 +169,7 @@ impl Clip {
             refusal,
             remedy: [w, h]
                 .iter()
-                .all(|side| (1..=8128).contains(side))
+                .all(|side| (1..=MAX_SIDE).contains(side))
                 .then(|| {
                     let filter = "-vf 'pad=ceil(iw/4)*4:ceil(ih/4)*4' ";
                     taken_copy(&self.path, filter)
