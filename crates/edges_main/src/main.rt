@@ -92,7 +92,7 @@ fn block(b: EvcBlock, poc: u32, luma: &[u16], chroma: &[u16]) -> u32 {
         mv: no_motion(),
         poc,
     };
-    evc_mc::evc_mc2(
+    let r = evc_mc::evc_mc2(
         b,
         list0,
         luma,
@@ -104,7 +104,8 @@ fn block(b: EvcBlock, poc: u32, luma: &[u16], chroma: &[u16]) -> u32 {
         chroma,
         &mut pred0,
         &mut pred1,
-    )
+    );
+    r.code
 }
 
 // ---- what is printed

@@ -8,14 +8,15 @@ ghost use Rattle.evc_direct.specs.Direct.{getMvDir};
 ghost use Rattle.evc_motion.specs.Candidates.{getMotion};
 ghost use Rattle.evc_pad.specs.Padding.{padCode, padAfter};
 ghost use Rattle.evc_interp.specs.Prediction.{mcPlaneCode, mcPlaneAfter};
-ghost use Rattle.evc_mc.specs.Block.{refPicList, mc2Code, mc2First, mc2Second};
+ghost use Rattle.evc_mc.specs.Block.{refPicList, mc2Answer, mc2First, mc2Second};
 ghost use Rattle.evc_inter.specs.Inner.{zeroCandidates};
 ghost use Rattle.evc_inter.specs.Kinds.{planeType};
 ghost use Rattle.evc_camera.specs.Camera.{cameraMotion};
 ghost use Rattle.evc_trace.specs.declared.TraceHeader.{TraceHeader};
 ghost use Rattle.evc_trace.specs.Format.{writeHeaderCode, writeHeaderAfter, writeRecordCode, writeRecordAfter};
 ghost use Rattle.evc_record.specs.Record.{planes};
-ghost use Rattle.evc_replay.specs.Replay.{replayed};
+ghost use Rattle.evc_replay.specs.Counts.{replayedCounts, countsIn};
+ghost use Rattle.evc_replay.specs.Replay.{answerIn, replayed};
 use evc_avail::EvcAvail;
 use evc_camera::EvcCamera;
 use evc_clip::EvcClipped;
@@ -24,6 +25,7 @@ use evc_def::EvcMv;
 use evc_direct::EvcDirect;
 use evc_direct::Pocs;
 use evc_mc::EvcList;
+use evc_mc::EvcPredicted;
 use evc_motion::EvcCandidates;
 use evc_motion::Motion;
 use evc_plane::PlaneType;
@@ -182,11 +184,11 @@ pub extern "C" fn evc_mc2(
     v1: &[u16],
     pred0: &mut [u16],
     pred1: &mut [u16],
-) -> u32
+) -> EvcPredicted
     ensures { λ r. ⌜ (
         let l0 = refPicList list0 (now (y0 .entry)) (now (u0 .entry)) (now (v0 .entry)) in
         let l1 = refPicList list1 (now (y1 .entry)) (now (u1 .entry)) (now (v1 .entry)) in
-        r ≡ mc2Code block l0 l1 (now (pred0 .entry)) (now (pred1 .entry))) ⌝ }
+        r ≡ mc2Answer block l0 l1 (now (pred0 .entry)) (now (pred1 .entry))) ⌝ }
     ensures { λ _. ⌜ (
         let l0 = refPicList list0 (now (y0 .entry)) (now (u0 .entry)) (now (v0 .entry)) in
         let l1 = refPicList list1 (now (y1 .entry)) (now (u1 .entry)) (now (v1 .entry)) in
@@ -251,7 +253,12 @@ pub extern "C" fn evc_trace_replay(
         let ref1 = planes (now (y1 .entry)) (now (u1 .entry)) (now (v1 .entry)) in
         let target = planes (now (y .entry)) (now (u .entry)) (now (v .entry)) in
         let after = planes (now (y .exit)) (now (u .exit)) (now (v .exit)) in
-        record { answer = r; target = after } ≡ replayed (now (trace .entry)) ref0 ref1 «has_col» (now («col_mv» .entry)) target) ⌝ }
+        record { answer = answerIn r; target = after } ≡ replayed (now (trace .entry)) ref0 ref1 «has_col» (now («col_mv» .entry)) target) ⌝ }
+    ensures { λ r. ⌜ (
+        let ref0 = planes (now (y0 .entry)) (now (u0 .entry)) (now (v0 .entry)) in
+        let ref1 = planes (now (y1 .entry)) (now (u1 .entry)) (now (v1 .entry)) in
+        let target = planes (now (y .entry)) (now (u .entry)) (now (v .entry)) in
+        countsIn r ≡ replayedCounts (now (trace .entry)) ref0 ref1 «has_col» (now («col_mv» .entry)) target) ⌝ }
 {
     evc_replay::evc_trace_replay(trace, y0, u0, v0, y1, u1, v1, has_col, col_mv, y, u, v)
 }

@@ -24,6 +24,7 @@ use Rattle.evc_mc.specs.Block.{RefPicList, Component, typeOf, offsetOf, widthOf
 use Rattle.evc_law.specs.General.{general}
 use Rattle.evc_law.specs.Demand3.{Picture, Equal, Call, Premises, Accepted, sample, generalList, roundedAverage, GeneralFilter, PictureLeftRight, PictureTopBottom, blockLeftRight, blockTopBottom, mvLeftRight, mvTopBottom, Mirrored, LeftRight, TopBottom, exchanged, Exchange, Demand3}
 use Rattle.evc_law.proofs.Calls.{list-general, Asked, accepts-call, accepted-call, block-holds}
+use Rattle.evc_law.proofs.Reports.{reports-left-right, reports-top-bottom, reports-exchanged}
 use Rattle.evc_law.proofs.Mirror.{some-side, block-left-right, block-top-bottom, list-left-right, list-top-bottom, equal-left-right, equal-top-bottom, mirrored-sample, mirrored-premises}
 
 -- ---- what an accepted call leaves in its first block
@@ -148,6 +149,7 @@ left-right k m known done mirror =
     let block = block-left-right b in
     let equal = equal-left-right b in (
       mirror-accepted mvLeftRight (PictureLeftRight b) (blockLeftRight b) k m known done mirror block equal,
+      reports-left-right (PictureLeftRight b) k m (a .0) (a .1) done (mirror-accepted mvLeftRight (PictureLeftRight b) (blockLeftRight b) k m known done mirror block equal) mirror,
       λ c x x′ y e ly.
           mirror-samples mvLeftRight (PictureLeftRight b) (blockLeftRight b) k m known done mirror block equal c x y x′ y (omega arith) ly (omega arith) ly
           (λ l n p q v t. list-left-right b (a .0) (a .1) l n p q v t c x x′ y e),
@@ -160,6 +162,7 @@ top-bottom k m known done mirror =
     let block = block-top-bottom b in
     let equal = equal-top-bottom b in (
       mirror-accepted mvTopBottom (PictureTopBottom b) (blockTopBottom b) k m known done mirror block equal,
+      reports-top-bottom (PictureTopBottom b) k m (a .0) (a .1) done (mirror-accepted mvTopBottom (PictureTopBottom b) (blockTopBottom b) k m known done mirror block equal) mirror,
       λ c x y y′ lx e.
           mirror-samples mvTopBottom (PictureTopBottom b) (blockTopBottom b) k m known done mirror block equal c x y x y′ lx (omega arith) lx (omega arith)
           (λ l n p q v t. list-top-bottom b (a .0) (a .1) l n p q v t c x y y′ e),
@@ -202,6 +205,7 @@ exchange k pred0 pred1 given done long0 long1 =
       long1 = long1;
     }) in (
       yes,
+      reports-exchanged k (exchanged k pred0 pred1) done yes refl refl refl,
       λ c x y lx ly.
           general-filter (exchanged k pred0 pred1) (exchanged-premises k pred0 pred1 given) yes c x y lx ly
           ∙ swapped (k .l0 .list .used) (k .l1 .list .used) _ _ (a .some)

@@ -1,5 +1,6 @@
--- Demand 3, in the words of document 01, 'What demand 3 compares'. Each statement speaks of the definitions that evc_mc2's contract equates its answer and its
--- first block with, so it holds of every call. evc_law/proofs/Theorems proves them.
+-- Demand 3, in the words of document 01, 'What demand 3 compares'; the mirrors and the exchange also say what becomes of the reports of document 02's W2. Each
+-- statement speaks of the definitions that evc_mc2's contract equates its answer and its first block with, so it holds of every call. evc_law/proofs/Theorems
+-- proves them.
 use mathlib.Core.Bool.{true, cond, _&&_}
 use mathlib.Core.List.{List}
 use mathlib.Core.Path.{_≡_}
@@ -12,9 +13,11 @@ use Rattle.evc_def.specs.declared.EvcMv.{EvcMv}
 use Rattle.evc_def.specs.declared.QpelPlace.{QpelPlace}
 use Rattle.evc_plane.specs.Planes.{sideOf, planeLen, sampleAt, referenceOf}
 use Rattle.evc_pad.specs.Padding.{padCode, padAfter}
-use Rattle.evc_clip.specs.Clip.{clippedPlace}
+use Rattle.evc_clip.specs.Clip.{otherSide, clippedPlace}
+use Rattle.evc_clip.specs.declared.EvcMoved.{EvcMoved}
 use Rattle.evc_mc.specs.declared.EvcList.{EvcList}
-use Rattle.evc_mc.specs.Block.{RefPicList, refPicList, Component, luma, cb, cr, typeOf, planeOf, offsetOf, widthOf, heightOf, predLen, mc2Code, mc2First}
+use Rattle.evc_mc.specs.declared.EvcPredicted.{EvcPredicted}
+use Rattle.evc_mc.specs.Block.{RefPicList, refPicList, Component, luma, cb, cr, typeOf, planeOf, offsetOf, widthOf, heightOf, predLen, mc2Answer, mc2First}
 use Rattle.evc_law.specs.General.{general}
 
 -- ---- a call and its premises
@@ -51,9 +54,12 @@ pub record Premises (k : Call) : Type 0 where
   pub made1 : Made (k .block) (k .l1) (k .picture1)
   pub counts : k .l0 .list .used ≡ true → k .l1 .list .used ≡ true → k .l0 .list .poc ≡ k .l1 .list .poc → Equal (k .block) (k .picture0) (k .picture1)
 
--- the number that the call returns, and "the predicted samples of the first block": column x of row y of a component
+-- what the call returns, its number, and "the predicted samples of the first block": column x of row y of a component
+abbrev pub answer : Call → EvcPredicted
+answer k = mc2Answer (k .block) (k .l0) (k .l1) (k .pred0) (k .pred1)
+
 abbrev pub code : Call → ℕ
-code k = mc2Code (k .block) (k .l0) (k .l1) (k .pred0) (k .pred1)
+code k = answer k .code
 
 abbrev pub Accepted : Call → Type 0
 Accepted k = code k ≡ 0
@@ -181,16 +187,26 @@ pub record Mirrored (turn : EvcMv → EvcMv) (Turned : Picture → Picture → T
   pub long0 : predLen ≤ length (m .pred0)
   pub long1 : predLen ≤ length (m .pred1)
 
+-- what becomes of a report: the low and the high side change places in the direction that is mirrored
+abbrev pub movedLeftRight : EvcMoved → EvcMoved
+movedLeftRight m = record { x = otherSide (m .x); y = m .y }
+
+abbrev pub movedTopBottom : EvcMoved → EvcMoved
+movedTopBottom m = record { x = m .x; y = otherSide (m .y) }
+
+abbrev pub ReportsMirrored : (EvcMoved → EvcMoved) → Call → Call → Type 0
+ReportsMirrored turn k m = (answer m .moved0 ≡ turn (answer k .moved0)) × (answer m .moved1 ≡ turn (answer k .moved1))
+
 -- "column c of each predicted plane equals the straight call's column n - 1 - c, n being that plane's block width"
 abbrev pub LeftRight : Type 0
 LeftRight =
     (k m : Call) → Premises k → Accepted k → Mirrored mvLeftRight (PictureLeftRight (k .block)) (blockLeftRight (k .block)) k m →
-    Accepted m × ((c : Component) (x x′ y : ℕ) → x + x′ + 1 ≡ widthOf (k .block) c → y < heightOf (k .block) c → sample m c x y ≡ sample k c x′ y)
+    Accepted m × ReportsMirrored movedLeftRight k m × ((c : Component) (x x′ y : ℕ) → x + x′ + 1 ≡ widthOf (k .block) c → y < heightOf (k .block) c → sample m c x y ≡ sample k c x′ y)
 
 abbrev pub TopBottom : Type 0
 TopBottom =
     (k m : Call) → Premises k → Accepted k → Mirrored mvTopBottom (PictureTopBottom (k .block)) (blockTopBottom (k .block)) k m →
-    Accepted m × ((c : Component) (x y y′ : ℕ) → x < widthOf (k .block) c → y + y′ + 1 ≡ heightOf (k .block) c → sample m c x y ≡ sample k c x y′)
+    Accepted m × ReportsMirrored movedTopBottom k m × ((c : Component) (x y y′ : ℕ) → x < widthOf (k .block) c → y + y′ + 1 ≡ heightOf (k .block) c → sample m c x y ≡ sample k c x y′)
 
 -- ---- the exchange
 
@@ -207,11 +223,16 @@ exchanged k pred0 pred1 =
       pred1 = pred1;
     }
 
+-- the reports are exchanged with their lists
+abbrev pub ReportsExchanged : Call → Call → Type 0
+ReportsExchanged k m = (answer m .moved0 ≡ answer k .moved1) × (answer m .moved1 ≡ answer k .moved0)
+
 -- "that call is accepted too, and its first block has the same samples"; "the second block is not compared"
 abbrev pub Exchange : Type 0
 Exchange =
     (k : Call) (pred0 pred1 : List ℕ) → Premises k → Accepted k → predLen ≤ length pred0 → predLen ≤ length pred1 →
     Accepted (exchanged k pred0 pred1)
+    × ReportsExchanged k (exchanged k pred0 pred1)
     × ((c : Component) (x y : ℕ) → x < widthOf (k .block) c → y < heightOf (k .block) c → sample (exchanged k pred0 pred1) c x y ≡ sample k c x y)
 
 -- ---- demand 3

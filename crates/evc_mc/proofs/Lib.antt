@@ -1,3 +1,4 @@
+pub mod Answers
 pub mod Checks
 pub mod Motion
 pub mod Samples

@@ -14,9 +14,11 @@ use Rattle.evc_def.specs.declared.EvcBlock.{EvcBlock}
 use Rattle.evc_plane.specs.Planes.{sideOf, planeLen}
 use Rattle.evc_plane.specs.declared.PlaneType.{PlaneType}
 use Rattle.evc_plane.specs.declared.PlaneType.the-variants.{Y, UV}
-use Rattle.evc_clip.specs.Clip.{clipMv, clippedPlace}
+use Rattle.evc_clip.specs.Clip.{clipMv, movedMv, nothingMoved, clippedPlace}
+use Rattle.evc_clip.specs.declared.EvcMoved.{EvcMoved}
 use Rattle.evc_interp.specs.Prediction.{predicted, windowExceeds}
 use Rattle.evc_mc.specs.declared.EvcList.{EvcList}
+use Rattle.evc_mc.specs.declared.EvcPredicted.{EvcPredicted}
 
 -- a list: whether it is in use, its vector and count, and the three planes of its picture
 pub record RefPicList : Type 0 where
@@ -121,6 +123,23 @@ mc2Code b l m pred0 pred1 =
     ∷ 5 when (pocExceeds (l .list) || pocExceeds (m .list))
     ∷ 6 when (listExceeds b l || listExceeds b m)
     ∷ []))
+
+-- document 02, W2: "a list not in use, or a refused .. block call, reports nothing moved". Where list 0 alone stands, list 1 is in use all the same.
+unfoldable pub listMoved : EvcBlock → EvcList → EvcMoved
+listMoved b l = cond (l .used) (movedMv b (l .mv)) nothingMoved
+
+-- what is returned with a number
+abbrev pub answered : ℕ → EvcBlock → EvcList → EvcList → EvcPredicted
+answered code b l m =
+    record {
+      code = code;
+      moved0 = cond (eqb code 0) (listMoved b l) nothingMoved;
+      moved1 = cond (eqb code 0) (listMoved b m) nothingMoved;
+    }
+
+-- what the call returns
+abbrev pub mc2Answer : EvcBlock → RefPicList → RefPicList → List ℕ → List ℕ → EvcPredicted
+mc2Answer b l m pred0 pred1 = answered (mc2Code b l m pred0 pred1) b (l .list) (m .list)
 
 -- the first block after the call
 unfoldable pub mc2First : EvcBlock → RefPicList → RefPicList → List ℕ → List ℕ → List ℕ

@@ -7,10 +7,11 @@ ghost use Rattle.evc_int.specs.Lists.{withRow};
 ghost use Rattle.evc_def.specs.Blocks.{badPicture};
 ghost use Rattle.evc_def.specs.Codes.{firstOf, blockChecks};
 ghost use Rattle.evc_def.specs.Places.{isSame};
-ghost use Rattle.evc_clip.specs.Clip.{clippedPlace};
+ghost use Rattle.evc_clip.specs.Clip.{nothingMoved, clippedPlace};
 ghost use Rattle.evc_mc.specs.Block.{refPicList, Component, withSamples, listSample, firstSample, isBi, average, predLen};
-ghost use Rattle.evc_mc.specs.Block.{planesShort, listShort, pocExceeds, listExceeds, mc2Code, mc2First, mc2Second};
+ghost use Rattle.evc_mc.specs.Block.{planesShort, listShort, pocExceeds, listExceeds, mc2Code, listMoved, answered, mc2Answer, mc2First, mc2Second};
 ghost use Rattle.evc_mc.specs.Inner.{ListExamined, withList, blockSample, RowSmall, BlockSmall};
+use evc_clip::EvcMoved;
 use evc_def::EvcBlock;
 use evc_def::EvcMv;
 use evc_def::MAX_POC;
@@ -23,6 +24,14 @@ pub struct EvcList {
     pub used: bool,
     pub mv: EvcMv,
     pub poc: u32,
+}
+
+// What a call returns: its number, and what clipping did to each list's vector.
+#[repr(C)]
+pub struct EvcPredicted {
+    pub code: u32,
+    pub moved0: EvcMoved,
+    pub moved1: EvcMoved,
 }
 
 // ---- the checks, each over one list
@@ -204,6 +213,29 @@ fn same_motion(list0: EvcList, gmv0: QpelPlace, list1: EvcList, gmv1: QpelPlace)
     (list0.poc == list1.poc) & gmv0.is_same(gmv1)
 }
 
+// ---- the reports
+
+// A list that is not in use has none.
+fn list_moved(b: EvcBlock, list: EvcList, gmv: QpelPlace) -> EvcMoved
+    requires { ⌜ (firstOf (blockChecks b) ≡ 0) × (gmv ≡ clippedPlace b (list .mv)) ⌝ }
+    ensures { λ r. ⌜ r ≡ listMoved b list ⌝ }
+{
+    if !list.used {
+        return evc_clip::nothing_moved();
+    }
+    evc_clip::moved_mv(b, list.mv, gmv)
+}
+
+pub fn refused(code: u32) -> EvcPredicted
+    ensures { λ r. ⌜ r ≡ record { code = code; moved0 = nothingMoved; moved1 = nothingMoved } ⌝ }
+{
+    EvcPredicted {
+        code,
+        moved0: evc_clip::nothing_moved(),
+        moved1: evc_clip::nothing_moved(),
+    }
+}
+
 // ---- the call
 
 fn predict_lists(
@@ -255,11 +287,11 @@ pub fn evc_mc2(
     v1: &[u16],
     pred0: &mut [u16],
     pred1: &mut [u16],
-) -> u32
+) -> EvcPredicted
     ensures { λ r. ⌜ (
         let l0 = refPicList list0 (now (y0 .entry)) (now (u0 .entry)) (now (v0 .entry)) in
         let l1 = refPicList list1 (now (y1 .entry)) (now (u1 .entry)) (now (v1 .entry)) in
-        r ≡ mc2Code block l0 l1 (now (pred0 .entry)) (now (pred1 .entry))) ⌝ }
+        r ≡ mc2Answer block l0 l1 (now (pred0 .entry)) (now (pred1 .entry))) ⌝ }
     ensures { λ _. ⌜ (
         let l0 = refPicList list0 (now (y0 .entry)) (now (u0 .entry)) (now (v0 .entry)) in
         let l1 = refPicList list1 (now (y1 .entry)) (now (u1 .entry)) (now (v1 .entry)) in
@@ -271,7 +303,7 @@ pub fn evc_mc2(
 {
     let block_code = evc_def::block_code(block);
     if block_code != 0 {
-        return block_code;
+        return refused(block_code);
     }
     let gmv0 = evc_clip::clipped_place(block, list0.mv);
     let gmv1 = evc_clip::clipped_place(block, list1.mv);
@@ -291,7 +323,7 @@ pub fn evc_mc2(
         pred1,
     );
     if code != 0 {
-        return code;
+        return refused(code);
     }
     predict_lists(
         block,
@@ -308,5 +340,9 @@ pub fn evc_mc2(
         pred0,
         pred1,
     );
-    code
+    EvcPredicted {
+        code,
+        moved0: list_moved(block, list0, gmv0),
+        moved1: list_moved(block, list1, gmv1),
+    }
 }

@@ -1,7 +1,7 @@
 -- From the block prediction to a record's step: the two blocks of 6144 samples drop out. Assumes nothing.
 use mathlib.Core.Bool.{Bool}
 use mathlib.Core.List.{List}
-use mathlib.Core.Path.{_≡_, sym, ap, _∙_}
+use mathlib.Core.Path.{_≡_, refl, sym, ap, _∙_}
 use Prim.Native.Nat.{ℕ, _≤_}
 use native.Mathlib.Omega.{arith}
 use borrow.Author.Tests.{ne-eqb, ltb-false}
@@ -11,15 +11,16 @@ use Rattle.evc_def.specs.Codes.{firstOf, blockChecks}
 use Rattle.evc_def.specs.declared.EvcBlock.{EvcBlock}
 use Rattle.evc_def.proofs.Codes.{accepted}
 use Rattle.evc_direct.specs.declared.EvcDirect.{EvcDirect}
-use Rattle.evc_mc.specs.Block.{RefPicList, refPicList, Component, luma, cb, cr, withSamples, firstSample, predLen, mc2Code, mc2First}
+use Rattle.evc_mc.specs.Block.{RefPicList, refPicList, Component, luma, cb, cr, withSamples, firstSample, predLen, mc2Code, answered, mc2Answer, mc2First}
 use Rattle.evc_mc.specs.Inner.{blockSample}
 use Rattle.evc_mc.specs.declared.EvcList.{EvcList}
+use Rattle.evc_mc.specs.declared.EvcPredicted.{EvcPredicted}
 use Rattle.evc_mc.proofs.Checks.{accepts, sides}
 use Rattle.evc_mc.proofs.Samples.{samples-at}
 use Rattle.evc_trace.specs.Format.{countLen, recordOf}
 use Rattle.evc_trace.specs.declared.TraceHeader.{TraceHeader}
 use Rattle.evc_trace.specs.declared.EvcTraceRecord.{EvcTraceRecord}
-use Rattle.evc_record.specs.Record.{Planes, planes, Source, source, blockOf, motionOf, list0Of, list1Of, withPlanes, blank, formCode, blockCode, recordCode, withPicture, planeAfter, targetAfter}
+use Rattle.evc_record.specs.Record.{Planes, planes, Source, source, blockOf, motionOf, list0Of, list1Of, withPlanes, blank, formCode, blockCode, recordCode, recordAnswer, withPicture, planeAfter, targetAfter}
 use Rattle.evc_record.specs.Inner.{afterRecord}
 use Rattle.evc_record.proofs.Places.{picture-ext}
 
@@ -29,18 +30,18 @@ module _ (b : EvcBlock) (l m : RefPicList) (p q : List ℕ) (ep : length p ≡ p
   unfolding mc2Code
   any-blocks = rw (ep, eq)
 
-  pub first-block : (c : ℕ) (d : List ℕ) → c ≡ mc2Code b l m p q → d ≡ mc2First b l m p q → c ≡ 0 → d ≡ withSamples b (firstSample b l m) p
+  pub first-block : (a : EvcPredicted) (d : List ℕ) → a ≡ mc2Answer b l m p q → d ≡ mc2First b l m p q → a .code ≡ 0 → d ≡ withSamples b (firstSample b l m) p
   unfolding mc2First
-  first-block c d e f z = let g : mc2Code b l m p q ≡ 0 = sym e ∙ z in rw g at f
+  first-block a d e f z = let g : mc2Code b l m p q ≡ 0 = sym (ap (λ (a : EvcPredicted). a .code) e) ∙ z in rw g at f
 
 -- the block and the lists as the code made them
-pub predicted : (b b′ : EvcBlock) (l l′ m m′ : EvcList) (y0 u0 v0 y1 u1 v1 p q d : List ℕ) (c : ℕ) → length p ≡ predLen → length q ≡ predLen → b ≡ b′ → l ≡ l′ → m ≡ m′
-    → c ≡ mc2Code b (refPicList l y0 u0 v0) (refPicList m y1 u1 v1) p q → d ≡ mc2First b (refPicList l y0 u0 v0) (refPicList m y1 u1 v1) p q
-    → (c ≡ mc2Code b′ (refPicList l′ y0 u0 v0) (refPicList m′ y1 u1 v1) blank blank) × (c ≡ 0 → d ≡ withSamples b′ (firstSample b′ (refPicList l′ y0 u0 v0) (refPicList m′ y1 u1 v1)) p)
-predicted b b′ l l′ m m′ y0 u0 v0 y1 u1 v1 p q d c ep eq eb el em e f =
-    let e′ : c ≡ mc2Code b′ (refPicList l′ y0 u0 v0) (refPicList m′ y1 u1 v1) p q = e ∙ simp (eb, el, em) in
+pub predicted : (b b′ : EvcBlock) (l l′ m m′ : EvcList) (y0 u0 v0 y1 u1 v1 p q d : List ℕ) (a : EvcPredicted) → length p ≡ predLen → length q ≡ predLen → b ≡ b′ → l ≡ l′ → m ≡ m′
+    → a ≡ mc2Answer b (refPicList l y0 u0 v0) (refPicList m y1 u1 v1) p q → d ≡ mc2First b (refPicList l y0 u0 v0) (refPicList m y1 u1 v1) p q
+    → (a ≡ mc2Answer b′ (refPicList l′ y0 u0 v0) (refPicList m′ y1 u1 v1) blank blank) × (a .code ≡ 0 → d ≡ withSamples b′ (firstSample b′ (refPicList l′ y0 u0 v0) (refPicList m′ y1 u1 v1)) p)
+predicted b b′ l l′ m m′ y0 u0 v0 y1 u1 v1 p q d a ep eq eb el em e f =
+    let e′ : a ≡ mc2Answer b′ (refPicList l′ y0 u0 v0) (refPicList m′ y1 u1 v1) p q = e ∙ simp (eb, el, em) in
     let f′ : d ≡ mc2First b′ (refPicList l′ y0 u0 v0) (refPicList m′ y1 u1 v1) p q = f ∙ simp (eb, el, em) in
-    (e′ ∙ any-blocks b′ (refPicList l′ y0 u0 v0) (refPicList m′ y1 u1 v1) p q ep eq, first-block b′ (refPicList l′ y0 u0 v0) (refPicList m′ y1 u1 v1) p q ep eq c d e′ f′)
+    (e′ ∙ ap (λ (c : ℕ). answered c b′ l′ m′) (any-blocks b′ (refPicList l′ y0 u0 v0) (refPicList m′ y1 u1 v1) p q ep eq), first-block b′ (refPicList l′ y0 u0 v0) (refPicList m′ y1 u1 v1) p q ep eq a d e′ f′)
 
 -- ---- a record's step
 
@@ -75,6 +76,9 @@ module _ (h : TraceHeader) (p q : Planes) (has : Bool) (col : List ℤ) (s : Lis
       pub code-block : (c : ℕ) → c ≡ mc2Code (blockOf h r) first second blank blank → c ≡ recordCode from s
       unfolding recordCode blockCode
       code-block c e = rw (form, er, em, direct) e
+
+      pub answer-block : (a : EvcPredicted) → a ≡ mc2Answer (blockOf h r) first second blank blank → a ≡ recordAnswer from s
+      answer-block a e = rw (er, em, sym (code-block (mc2Code (blockOf h r) first second blank blank) refl)) e
 
       module _ (e : mc2Code (blockOf h r) first second blank blank ≡ 0) where
         pub good-block : firstOf (blockChecks (blockOf h r)) ≡ 0

@@ -15,8 +15,9 @@ use Rattle.evc_direct.specs.Direct.{getMvDir}
 use Rattle.evc_direct.specs.declared.EvcDirect.{EvcDirect}
 use Rattle.evc_direct.specs.declared.Pocs.{Pocs}
 use Rattle.evc_clip.specs.Clip.{clipMv}
-use Rattle.evc_mc.specs.Block.{RefPicList, Component, luma, cb, cr, typeOf, widthOf, heightOf, firstSample, predLen, planesShort, mc2Code}
+use Rattle.evc_mc.specs.Block.{RefPicList, Component, luma, cb, cr, typeOf, widthOf, heightOf, firstSample, predLen, planesShort, mc2Code, answered}
 use Rattle.evc_mc.specs.declared.EvcList.{EvcList}
+use Rattle.evc_mc.specs.declared.EvcPredicted.{EvcPredicted}
 use Rattle.evc_trace.specs.Format.{recordLen, countLen, recordOf, lastByte, isWellFormed}
 use Rattle.evc_trace.specs.declared.TraceHeader.{TraceHeader}
 use Rattle.evc_trace.specs.declared.EvcTraceRecord.{EvcTraceRecord}
@@ -104,6 +105,12 @@ a orElse b = cond (eqb a 0) b a
 -- "and the direct call's or block's own number"
 unfoldable pub recordCode : Source → List ℕ → ℕ
 recordCode e s = formCode s orElse motion e (recordOf countLen s) .code orElse blockCode e (recordOf countLen s)
+
+-- with the block's reports (document 02, W2); nothing is reported of a record that is refused
+abbrev pub recordAnswer : Source → List ℕ → EvcPredicted
+recordAnswer e s =
+    let r = recordOf countLen s in
+    answered (recordCode e s) (blockOf (e .header) r) (list0Of r (motion e r)) (list1Of r (motion e r))
 
 -- ---- its step: number, block, clipped vectors (zero for a list not in use) and the first block's samples
 

@@ -7,15 +7,16 @@ ghost use Rattle.evc_def.specs.Codes.{firstOf, blockChecks};
 ghost use Rattle.evc_plane.specs.Planes.{sideOf, strideOf, planeLen};
 ghost use Rattle.evc_direct.specs.Direct.{getMvDir};
 ghost use Rattle.evc_lanes.specs.Inner.{isRowWidth};
-ghost use Rattle.evc_mc.specs.Block.{luma, cb, cr, refPicList, predLen, mc2Code, withSamples, firstSample};
+ghost use Rattle.evc_mc.specs.Block.{luma, cb, cr, refPicList, predLen, mc2Answer, withSamples, firstSample};
 ghost use Rattle.evc_mc.specs.Inner.{blockSample};
-ghost use Rattle.evc_record.specs.Record.{planes, pictureShort, source, blockOf, pocsOf, motionOf, list0Of, list1Of, blank, formCode, recordCode, placeIn, withPicture};
+ghost use Rattle.evc_record.specs.Record.{planes, pictureShort, source, blockOf, pocsOf, motionOf, list0Of, list1Of, blank, formCode, recordAnswer, placeIn, withPicture};
 ghost use Rattle.evc_record.specs.Inner.{afterRecord};
 use evc_def::EvcBlock;
 use evc_def::EvcMv;
 use evc_direct::EvcDirect;
 use evc_direct::Pocs;
 use evc_mc::EvcList;
+use evc_mc::EvcPredicted;
 use evc_plane::PlaneType;
 use evc_trace::EvcTraceRecord;
 use evc_trace::RECORD_LEN;
@@ -167,16 +168,16 @@ fn predict_record(
     v1: &[u16],
     pred0: &mut [u16],
     pred1: &mut [u16],
-) -> u32
+) -> EvcPredicted
     requires { ⌜ (length (now pred0) ≡ predLen) × (length (now pred1) ≡ predLen) ⌝ }
-    ensures { λ c. ⌜ (
+    ensures { λ p. ⌜ (
         let l0 = refPicList (list0Of r m) (now (y0 .entry)) (now (u0 .entry)) (now (v0 .entry)) in
         let l1 = refPicList (list1Of r m) (now (y1 .entry)) (now (u1 .entry)) (now (v1 .entry)) in
-        c ≡ mc2Code (blockOf h r) l0 l1 blank blank) ⌝ }
-    ensures { λ c. ⌜ (
+        p ≡ mc2Answer (blockOf h r) l0 l1 blank blank) ⌝ }
+    ensures { λ p. ⌜ (
         let l0 = refPicList (list0Of r m) (now (y0 .entry)) (now (u0 .entry)) (now (v0 .entry)) in
         let l1 = refPicList (list1Of r m) (now (y1 .entry)) (now (u1 .entry)) (now (v1 .entry)) in
-        c ≡ 0 → now (pred0 .exit) ≡ withSamples (blockOf h r) (firstSample (blockOf h r) l0 l1) (now (pred0 .entry))) ⌝ }
+        p .code ≡ 0 → now (pred0 .exit) ≡ withSamples (blockOf h r) (firstSample (blockOf h r) l0 l1) (now (pred0 .entry))) ⌝ }
 {
     let b = block_of(h, r);
     let l0 = list0(r, m);
@@ -184,7 +185,7 @@ fn predict_record(
     evc_mc::evc_mc2(b, l0, y0, u0, v0, l1, y1, u1, v1, pred0, pred1)
 }
 
-// One record: its number, and on 0 its block in the target.
+// One record: its number and reports, and on 0 its block in the target.
 pub fn replay_record(
     h: TraceHeader,
     s: &[u8],
@@ -201,14 +202,14 @@ pub fn replay_record(
     v: &mut [u16],
     pred0: &mut [u16],
     pred1: &mut [u16],
-) -> u32
+) -> EvcPredicted
     requires { ⌜ pictureShort (h .«pic_w») (h .«pic_h») (planes (now y) (now u) (now v)) ≡ false ⌝ }
     requires { ⌜ (length (now pred0) ≡ predLen) × (length (now pred1) ≡ predLen) ⌝ }
-    ensures { λ c. ⌜ (
+    ensures { λ p. ⌜ (
         let ref0 = planes (now (y0 .entry)) (now (u0 .entry)) (now (v0 .entry)) in
         let ref1 = planes (now (y1 .entry)) (now (u1 .entry)) (now (v1 .entry)) in
-        c ≡ recordCode (source h ref0 ref1 «has_col» (now («col_mv» .entry))) (now (s .entry))) ⌝ }
-    ensures { λ c. ⌜ (
+        p ≡ recordAnswer (source h ref0 ref1 «has_col» (now («col_mv» .entry))) (now (s .entry))) ⌝ }
+    ensures { λ _. ⌜ (
         let ref0 = planes (now (y0 .entry)) (now (u0 .entry)) (now (v0 .entry)) in
         let ref1 = planes (now (y1 .entry)) (now (u1 .entry)) (now (v1 .entry)) in
         let target = planes (now (y .entry)) (now (u .entry)) (now (v .entry)) in
@@ -216,17 +217,17 @@ pub fn replay_record(
 {
     let form = form_code(s);
     if form != 0 {
-        return form;
+        return evc_mc::refused(form);
     }
     let r = evc_trace::read_record(s);
     let m = motion(h, r, has_col, col_mv);
     if m.code != 0 {
-        return m.code;
+        return evc_mc::refused(m.code);
     }
-    let code = predict_record(h, r, m, y0, u0, v0, y1, u1, v1, pred0, pred1);
-    if code != 0 {
-        return code;
+    let predicted = predict_record(h, r, m, y0, u0, v0, y1, u1, v1, pred0, pred1);
+    if predicted.code != 0 {
+        return predicted;
     }
     put_block(block_of(h, r), pred0, y, u, v);
-    0
+    predicted
 }

@@ -15,6 +15,9 @@ use Rattle.evc_map.specs.Maps.{mapShort}
 use Rattle.evc_trace.specs.Format.{version, isTrace, headerOf}
 use Rattle.evc_trace.specs.declared.TraceHeader.{TraceHeader}
 use Rattle.evc_record.specs.Record.{Planes, source, pictureShort}
+use Rattle.evc_counts.specs.Counts.{nothingCounted}
+use Rattle.evc_counts.specs.declared.MovedCounts.{MovedCounts}
+use Rattle.evc_replay.specs.Counts.{finished, countedOver, replayedCounts}
 use Rattle.evc_replay.specs.Replay.{headerCode, Replayed, recordsFrom, applied, replayed}
 
 -- 4: "every lent plane and map"
@@ -71,3 +74,11 @@ module _ (s : List ℕ) (p q : Planes) (has : Bool) (col : List ℤ) (t : Planes
   pub begun : (h : TraceHeader) (x : Replayed) → headerCode s p q has col t ≡ 0 → headerOf 2 s ≡ h → x ≡ applied (source h p q has col) (recordsFrom s 13) 0 t → x ≡ replayed s p q has col t
   unfolding replayed
   begun h x z eh e = rw (z, eh) e
+
+  pub nothing-counted : (c : ℕ) → c ≡ headerCode s p q has col t → (c ≡ 0 → ⊥) → nothingCounted ≡ replayedCounts s p q has col t
+  unfolding replayedCounts
+  nothing-counted c e n = rw (sym e, ne-eqb c 0 n)
+
+  pub counted : (h : TraceHeader) (c : MovedCounts) → headerCode s p q has col t ≡ 0 → headerOf 2 s ≡ h → (let e = source h p q has col in c ≡ countedOver e (finished e (recordsFrom s 13))) → c ≡ replayedCounts s p q has col t
+  unfolding replayedCounts
+  counted h c z eh e = rw (z, eh) e

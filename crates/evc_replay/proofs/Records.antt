@@ -8,8 +8,11 @@ use borrow.Author.Tests.{ne-eqb}
 use lib.ListN.{length, take, drop, length-take, length-drop}
 use Rattle.evc_record.specs.Record.{Planes, Source, _orElse_, formCode, recordCode, targetAfter}
 use Rattle.evc_record.specs.Inner.{afterRecord}
-use Rattle.evc_replay.specs.Replay.{recordsAt, recordsFrom, applied}
+use Rattle.evc_replay.specs.Replay.{Answer, Replayed, recordsAt, recordsFrom, applied}
 use Rattle.evc_record.proofs.Steps.{whole-record}
+
+pub with-target : (a b : Answer) (t : Planes) → a ≡ b → _≡_ {A = Replayed} (record { answer = a; target = t }) (record { answer = b; target = t })
+with-target a b t e = ap (λ (a : Answer). record { answer = a; target = t }) e
 
 pub next-record : (s : List ℕ) (at : ℕ) → at < length s → recordsFrom s at ≡ take 22 (drop at s) ∷ recordsFrom s (at + 22)
 unfolding recordsAt

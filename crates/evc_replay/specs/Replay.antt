@@ -36,9 +36,16 @@ recordsAt s at (suc n) = take (recordLen countLen) (drop at s) ∷ recordsAt s (
 abbrev pub recordsFrom : List ℕ → ℕ → List (List ℕ)
 recordsFrom s at = recordsAt s at ((length s - at + (recordLen countLen - 1)) / recordLen countLen)
 
--- what replay answers, and the target's planes afterwards
+-- what replay answers, but for its counts (Counts), and the target's planes afterwards
+pub record Answer : Type 0 where
+  pub code : ℕ
+  pub index : ℕ
+
+abbrev pub answerIn : EvcReplay → Answer
+answerIn r = record { code = r .code; index = r .index }
+
 pub record Replayed : Type 0 where
-  pub answer : EvcReplay
+  pub answer : Answer
   pub target : Planes
 
 -- "then per record, with its index from 0": k is the index of the first one. "the index is returned (the record count on 0) and the target keeps the blocks before it"

@@ -4,7 +4,9 @@ ghost use Prim.Native.Nat.{_≤_};
 ghost use lib.ListN.{length, take, drop};
 ghost use Rattle.evc_trace.specs.Format.{headerLen, recordLen, countLen};
 ghost use Rattle.evc_record.specs.Record.{planes, pictureShort, source};
-ghost use Rattle.evc_replay.specs.Replay.{headerCode, recordsFrom, applied, replayed};
+ghost use Rattle.evc_replay.specs.Replay.{answerIn, headerCode, recordsFrom, applied, replayed};
+ghost use Rattle.evc_replay.specs.Counts.{finished, countedOver, replayedCounts, countsIn};
+use evc_counts::MovedCounts;
 use evc_mc::PRED_LEN;
 use evc_trace::HEADER_LEN;
 use evc_trace::RECORD_LEN;
@@ -14,6 +16,23 @@ use evc_trace::TraceHeader;
 pub struct EvcReplay {
     pub code: u32,
     pub index: u64,
+    pub across_low: u64,
+    pub across_high: u64,
+    pub down_low: u64,
+    pub down_high: u64,
+}
+
+fn answer(code: u32, index: u64, c: MovedCounts) -> EvcReplay
+    ensures { λ r. ⌜ (answerIn r ≡ record { code = code; index = index }) × (countsIn r ≡ c) ⌝ }
+{
+    EvcReplay {
+        code,
+        index,
+        across_low: c.across_low,
+        across_high: c.across_high,
+        down_low: c.down_low,
+        down_high: c.down_high,
+    }
 }
 
 // The record at `at`, or what is left of it.
@@ -50,14 +69,20 @@ fn replay_records(
         let ref1 = planes (now (y1 .entry)) (now (u1 .entry)) (now (v1 .entry)) in
         let from = source h ref0 ref1 «has_col» (now («col_mv» .entry)) in
         let target = planes (now (y .entry)) (now (u .entry)) (now (v .entry)) in
-        record { answer = r; target = planes (now (y .exit)) (now (u .exit)) (now (v .exit)) } ≡ applied from (recordsFrom (now (trace .entry)) (headerLen countLen)) 0 target) ⌝ }
+        record { answer = answerIn r; target = planes (now (y .exit)) (now (u .exit)) (now (v .exit)) } ≡ applied from (recordsFrom (now (trace .entry)) (headerLen countLen)) 0 target) ⌝ }
+    ensures { λ r. ⌜ (
+        let ref0 = planes (now (y0 .entry)) (now (u0 .entry)) (now (v0 .entry)) in
+        let ref1 = planes (now (y1 .entry)) (now (u1 .entry)) (now (v1 .entry)) in
+        let from = source h ref0 ref1 «has_col» (now («col_mv» .entry)) in
+        countsIn r ≡ countedOver from (finished from (recordsFrom (now (trace .entry)) (headerLen countLen)))) ⌝ }
 {
     let mut pred0 = [0u16; PRED_LEN];
     let mut pred1 = [0u16; PRED_LEN];
     let mut at = HEADER_LEN;
     let mut index: u64 = 0;
+    let mut counts = MovedCounts::none();
     while at < trace.len() {
-        let code = evc_record::replay_record(
+        let record = evc_record::replay_record(
             h,
             record_at(trace, at),
             y0,
@@ -74,13 +99,16 @@ fn replay_records(
             &mut pred0,
             &mut pred1,
         );
-        if code != 0 {
-            return EvcReplay { code, index };
+        if record.code != 0 {
+            return answer(record.code, index, counts);
         }
+        let moved0 = record.moved0;
+        let moved1 = record.moved1;
+        counts = counts.with_lists(moved0, moved1);
         at += RECORD_LEN;
         index += 1;
     }
-    EvcReplay { code: 0, index }
+    answer(0, index, counts)
 }
 
 fn header_code(
@@ -141,11 +169,16 @@ pub fn evc_trace_replay(
         let ref0 = planes (now (y0 .entry)) (now (u0 .entry)) (now (v0 .entry)) in
         let ref1 = planes (now (y1 .entry)) (now (u1 .entry)) (now (v1 .entry)) in
         let target = planes (now (y .entry)) (now (u .entry)) (now (v .entry)) in
-        record { answer = r; target = planes (now (y .exit)) (now (u .exit)) (now (v .exit)) } ≡ replayed (now (trace .entry)) ref0 ref1 «has_col» (now («col_mv» .entry)) target) ⌝ }
+        record { answer = answerIn r; target = planes (now (y .exit)) (now (u .exit)) (now (v .exit)) } ≡ replayed (now (trace .entry)) ref0 ref1 «has_col» (now («col_mv» .entry)) target) ⌝ }
+    ensures { λ r. ⌜ (
+        let ref0 = planes (now (y0 .entry)) (now (u0 .entry)) (now (v0 .entry)) in
+        let ref1 = planes (now (y1 .entry)) (now (u1 .entry)) (now (v1 .entry)) in
+        let target = planes (now (y .entry)) (now (u .entry)) (now (v .entry)) in
+        countsIn r ≡ replayedCounts (now (trace .entry)) ref0 ref1 «has_col» (now («col_mv» .entry)) target) ⌝ }
 {
     let code = header_code(trace, y0, u0, v0, y1, u1, v1, has_col, col_mv, y, u, v);
     if code != 0 {
-        return EvcReplay { code, index: 0 };
+        return answer(code, 0, MovedCounts::none());
     }
     let h = evc_trace::read_header(trace);
     replay_records(h, trace, y0, u0, v0, y1, u1, v1, has_col, col_mv, y, u, v)

@@ -4,3 +4,4 @@ pub mod Records
 pub mod Complete
 pub mod Samples
 pub mod Replays
+pub mod Counts

@@ -70,25 +70,25 @@ module _ (a b : List ℕ) (l : 13 ≤ length a) where
   byte : (i : ℕ) → i < 13 → getD (a ++ b) i 0 ≡ getD a i 0
   byte i h = List·getD-append a b 0 i (omega arith)
 
-  same-header : headerOf countLen (a ++ b) ≡ headerOf countLen a
+  pub same-header : headerOf countLen (a ++ b) ≡ headerOf countLen a
   unfolding headerOf
   same-header = rw (byte 5 (omega arith), byte 6 (omega arith), byte 7 (omega arith), byte 8 (omega arith), byte 9 (omega arith), byte 10 (omega arith), byte 11 (omega arith), byte 12 (omega arith))
 
-  same-mark : isTrace version (a ++ b) ≡ isTrace version a
+  pub same-mark : isTrace version (a ++ b) ≡ isTrace version a
   unfolding isTrace
   same-mark = rw (byte 0 (omega arith), byte 1 (omega arith), byte 2 (omega arith), byte 3 (omega arith), byte 4 (omega arith))
 
 -- the header's number depends on the header, and on the lengths of what is lent
-same-code : (s s′ : List ℕ) (p q : Planes) (has : Bool) (col : List ℤ) (t t′ : Planes) → 13 ≤ length s → 13 ≤ length s′ → isTrace version s ≡ isTrace version s′ → headerOf countLen s ≡ headerOf countLen s′ → ((W H : ℕ) → pictureShort W H t ≡ pictureShort W H t′)
+pub same-code : (s s′ : List ℕ) (p q : Planes) (has : Bool) (col : List ℤ) (t t′ : Planes) → 13 ≤ length s → 13 ≤ length s′ → isTrace version s ≡ isTrace version s′ → headerOf countLen s ≡ headerOf countLen s′ → ((W H : ℕ) → pictureShort W H t ≡ pictureShort W H t′)
     → headerCode s p q has col t ≡ headerCode s′ p q has col t′
 unfolding headerCode
 same-code s s′ p q has col t t′ l l′ m h short = rw (le-ltb (length s) 13 l, le-ltb (length s′) 13 l′, m, h, short (headerOf countLen s′ .«pic_w») (headerOf countLen s′ .«pic_h»))
 
 module _ (p q : Planes) (has : Bool) (col : List ℤ) (t : Planes) where
-  abbrev from : List ℕ → Source
+  abbrev pub from : List ℕ → Source
   from s = source (headerOf countLen s) p q has col
 
-  begun : (s : List ℕ) → headerCode s p q has col t ≡ 0 → replay p q has col t s ≡ applied (from s) (recordsFrom s 13) 0 t
+  pub begun : (s : List ℕ) → headerCode s p q has col t ≡ 0 → replay p q has col t s ≡ applied (from s) (recordsFrom s 13) 0 t
   unfolding replayed
   begun s e = rw e
 
@@ -169,27 +169,38 @@ module _ (p q : Planes) (has : Bool) (col : List ℤ) (t : Planes) where
 
 -- the same header, and b's records over what a left
 module _ (p q : Planes) (has : Bool) (col : List ℤ) (t : Planes) where
+  module _ (a b : List ℕ) (n : ℕ) (w : Whole a n) (z : replay p q has col t a .answer .code ≡ 0) where
+    abbrev header : List ℕ
+    header = take 13 a
+
+    header-length : length header ≡ 13
+    header-length = length-take-le 13 a (omega arith)
+
+    whole : header ++ drop 13 a ≡ a
+    whole = take-append-drop 13 a
+
+    pub joined-header : headerOf countLen (header ++ b) ≡ headerOf countLen a
+    joined-header = let l = header-length in same-header header b (omega arith) ∙ sym (same-header header (drop 13 a) (omega arith)) ∙ ap (headerOf countLen) whole
+
+    pub joined-code : headerCode (header ++ b) p q has col (replay p q has col t a .target) ≡ 0
+    joined-code =
+        let l = header-length in
+        let mark : isTrace version (header ++ b) ≡ isTrace version a = same-mark header b (omega arith) ∙ sym (same-mark header (drop 13 a) (omega arith)) ∙ ap (isTrace version) whole in
+        same-code (header ++ b) a p q has col (replay p q has col t a .target) t (omega (arith, length-append header b)) (omega arith) mark joined-header (short-after p q has col t a) ∙ header-good p q has col t a z
+
+    pub joined-records : recordsFrom (header ++ b) 13 ≡ recordsFrom b 0
+    joined-records = let l = header-length in records-append header b 13 0 (omega arith) ∙ ap (λ (rs : List (List ℕ)). rs ++ recordsFrom b 0) (no-more header 13 (omega arith))
+
   continues : OneAfterAnother p q has col t
   unfolding continued
   continues a b n w z =
-      let l : 13 ≤ length a = omega arith in
       let h = take 13 a in
-      let lh : length h ≡ 13 = length-take-le 13 a l in
       let t′ = replay p q has col t a .target in
-      let e = header-good p q has col t a z in
-      let whole : h ++ drop 13 a ≡ a = take-append-drop 13 a in
-      let mark-h : isTrace version (h ++ b) ≡ isTrace version a = same-mark h b (omega arith) ∙ sym (same-mark h (drop 13 a) (omega arith)) ∙ ap (isTrace version) whole in
-      let header-h : headerOf countLen (h ++ b) ≡ headerOf countLen a = same-header h b (omega arith) ∙ sym (same-header h (drop 13 a) (omega arith)) ∙ ap (headerOf countLen) whole in
-      let e′ = same-code (h ++ b) a p q has col t′ t (omega (arith, length-append h b)) l mark-h header-h (short-after p q has col t a) ∙ e in
-      let rest : recordsFrom (h ++ b) 13 ≡ recordsFrom b 0 = records-append h b 13 0 (omega arith) ∙ ap (λ (rs : List (List ℕ)). rs ++ recordsFrom b 0) (none h lh) in
-      together p q has col t a b n w e
+      together p q has col t a b n w (header-good p q has col t a z)
       ∙ rw (z, count p q has col t a n w z)
       (sym (ap (λ (i : ℕ). applied (from p q has col t a) (recordsFrom b 0) i t′) (add-zero n))
       ∙ counted-from (from p q has col t a) (recordsFrom b 0) n 0 t′
-      ∙ ap (countedFrom n) (sym (begun p q has col t′ (h ++ b) e′ ∙ ap₂ (λ (k : TraceHeader) (rs : List (List ℕ)). applied (source k p q has col) rs 0 t′) header-h rest)))
-    where
-      none : (h : List ℕ) → length h ≡ 13 → recordsFrom h 13 ≡ []
-      none h e = no-more h 13 (omega arith)
+      ∙ ap (countedFrom n) (sym (begun p q has col t′ (h ++ b) (joined-code a b n w z) ∙ ap₂ (λ (k : TraceHeader) (rs : List (List ℕ)). applied (source k p q has col) rs 0 t′) (joined-header a b n w z) (joined-records a b n w z))))
 
 -- ---- 11
 
@@ -205,22 +216,22 @@ module _ (p q : Planes) (has : Bool) (col : List ℤ) (t : Planes) where
 
   -- a trace as its whole records and what is left
   module _ (a b : List ℕ) (l : 13 ≤ length a) where
-    abbrev count-of : ℕ
+    abbrev pub count-of : ℕ
     count-of = (length a - 13) / 22
 
-    abbrev cut : ℕ
+    abbrev pub cut : ℕ
     cut = 13 + 22 * count-of
 
     cut-inside : cut ≤ length a
     cut-inside = omega arith
 
-    whole-part : Whole (take cut a) count-of
+    pub whole-part : Whole (take cut a) count-of
     whole-part = length-take-le cut a cut-inside
 
-    rejoined : take cut a ++ drop cut a ≡ a
+    pub rejoined : take cut a ++ drop cut a ≡ a
     rejoined = take-append-drop cut a
 
-    longer : take cut a ++ (drop cut a ++ b) ≡ a ++ b
+    pub longer : take cut a ++ (drop cut a ++ b) ≡ a ++ b
     longer = sym (append-assoc (take cut a) (drop cut a) b) ∙ ap (λ (s : List ℕ). s ++ b) rejoined
 
     left-short : length (drop cut a) < 22
@@ -235,7 +246,7 @@ module _ (p q : Planes) (has : Bool) (col : List ℤ) (t : Planes) where
         ∙ ap (replay p q has col t) rejoined
 
     -- or at what is left: with 11, or not at all
-    at-the-end : replay p q has col t (take cut a) .answer .code ≡ 0 → (replay p q has col t a .answer .code ≡ 0 → ⊥) → replay p q has col t a .answer .code ≡ 11
+    pub at-the-end : replay p q has col t (take cut a) .answer .code ≡ 0 → (replay p q has col t a .answer .code ≡ 0 → ⊥) → replay p q has col t a .answer .code ≡ 11
     at-the-end z n =
         let w = take cut a in
         let d = drop cut a in
@@ -248,13 +259,16 @@ module _ (p q : Planes) (has : Bool) (col : List ℤ) (t : Planes) where
         go zero m e = absurd (n (ap (λ (r : Replayed). r .answer .code) e ∙ sym (ap (λ (r : Replayed). r .answer .code) (ended _ (drop cut a) 0 _ _ (omega arith)))))
         go (suc k) m e = ap (λ (r : Replayed). r .answer .code) e ∙ part-11 _ (drop cut a) _ _ (omega arith) left-short
 
+  pub short-header : (a : List ℕ) → length a < 13 → replay p q has col t a .answer .code ≡ 11
+  short-header a l =
+      let h = code-11 a p q has col t l in
+      ap (λ (r : Replayed). r .answer .code) (not-begun p q has col t a (λ k. let m = h ∙ k in omega arith)) ∙ sym h
+
   refused : Refused p q has col t
   refused a b z n = go (ltb (length a) 13) refl
     where
       go : (c : Bool) → ltb (length a) 13 ≡ c → replay p q has col t (a ++ b) ≡ replay p q has col t a
-      go true e =
-          let h = code-11 a p q has col t (ltb-true _ _ e) in
-          absurd (n (ap (λ (r : Replayed). r .answer .code) (not-begun p q has col t a (λ k. let m = h ∙ k in omega arith)) ∙ sym h))
+      go true e = absurd (n (short-header a (ltb-true _ _ e)))
       go false e = by-code (eqb (replay p q has col t (take (cut a b (ltb-false _ _ e)) a) .answer .code) 0) refl
         where
           by-code : (c : Bool) → eqb (replay p q has col t (take (cut a b (ltb-false _ _ e)) a) .answer .code) 0 ≡ c → replay p q has col t (a ++ b) ≡ replay p q has col t a

@@ -1,7 +1,7 @@
 //! Document 02, W6: the counterexample through the calls, and its three mirror images. "a block 64 wide, x 0, mvx -257, vertical component 0, with columns 0 and 1 holding 0
 //! and 1023, gives 0 in its last column, where the unclipped place would give 16." Of a picture the line next to one edge holds 1023, all others 0; the vector leads to the
 //! limit past that edge and 1 to 4 quarters of a sample beyond. A line has the luma sample that comes to lie nearest to the picture: of the block, of its quarter there, whose
-//! vector needs no clipping, and of the plane at the exact place.
+//! vector needs no clipping, and of the plane at the exact place; then the reports of clipping the block's vector, across and down (document 02, W2).
 use evc_def::EvcBlock;
 use evc_def::EvcMv;
 use evc_mc::EvcList;
@@ -99,6 +99,9 @@ fn line(name: &[u8], p: Parts, mv: EvcMv, luma: &[u16], chroma: &[u16]) {
         block(p.quarter, mv, p.quarter_at, luma, chroma),
     );
     print(b", exact place ", plane(p.whole, mv, p.whole_at, luma));
+    let clipped = evc_clip::mv_clip(p.whole, mv);
+    print(b", moved ", clipped.moved.x as u16);
+    print(b" ", clipped.moved.y as u16);
     io::write_all(STDOUT_FILENO, b"\n");
 }
 

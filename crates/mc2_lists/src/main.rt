@@ -1,10 +1,12 @@
-//! Calls of block prediction: for each a line with the number returned and a number for each of the two blocks. rust/README.md has the records.
+//! Calls of block prediction: for each a line with the number returned, the reports of both lists and a number for each of the two blocks. rust/README.md has the records.
 ghost use Prim.Native.Nat.{_≤_, _<_};
 ghost use lib.ListN.{length};
+use evc_clip::EvcMoved;
 use evc_def::EvcBlock;
 use evc_lists::MAX_RECORDS;
 use evc_lists::PICTURES_LEN;
 use evc_mc::EvcList;
+use evc_mc::EvcPredicted;
 
 const MAX_BLOCK_LEN: usize = 8192;
 
@@ -64,7 +66,7 @@ fn predict(
     r: &Record,
     pred0: &mut [u16],
     pred1: &mut [u16],
-) -> u32
+) -> EvcPredicted
     requires { ⌜ 393216 ≤ length (now planes) ⌝ }
 {
     let y0 = evc_lists::plane(planes, pictures, 0);
@@ -91,16 +93,28 @@ fn predict(
     )
 }
 
+fn print_moved(m: EvcMoved) {
+    evc_lists::print_next(m.x as u64);
+    evc_lists::print_next(m.y as u64);
+}
+
+fn print_answer(answer: EvcPredicted, pred0: &[u16], pred1: &[u16]) {
+    evc_lists::print(answer.code as u64);
+    print_moved(answer.moved0);
+    print_moved(answer.moved1);
+    evc_lists::print_next(evc_lists::hash(pred0));
+    evc_lists::print_next(evc_lists::hash(pred1));
+    evc_lists::end_line();
+}
+
 // The blocks hold arbitrary samples first.
 fn run_blocks(pictures: &Record, planes: &[u16], r: &Record, pred0: &mut [u16], pred1: &mut [u16])
     requires { ⌜ 393216 ≤ length (now planes) ⌝ }
 {
     evc_lists::scatter(pred0, evc_lists::number(r, BLOCK_SEED) as u32);
     evc_lists::scatter(pred1, evc_lists::number(r, BLOCK_SEED + 1) as u32);
-    evc_lists::print(predict(pictures, planes, r, pred0, pred1) as u64);
-    evc_lists::print_next(evc_lists::hash(pred0));
-    evc_lists::print_next(evc_lists::hash(pred1));
-    evc_lists::end_line();
+    let answer = predict(pictures, planes, r, pred0, pred1);
+    print_answer(answer, pred0, pred1);
 }
 
 fn run_call(pictures: &Record, planes: &[u16], r: &Record)

@@ -14,7 +14,7 @@ use lib.Seq.{getD-append-add}
 use Rattle.evc_def.specs.Blocks.{Allowed, isPictureSide, badPicture}
 use Rattle.evc_def.proofs.Blocks.{allowed-block}
 use Rattle.evc_def.proofs.Codes.{refused}
-use Rattle.evc_clip.specs.Clip.{mvClip}
+use Rattle.evc_clip.specs.Clip.{nothingMoved, mvClip}
 use Rattle.mv_clip_text.specs.Records.{field, answerAt, line, lines, text}
 
 -- ---- chunks
@@ -69,7 +69,7 @@ bad W H h = ⊎-elim (λ h. simp (large W h)) (λ h. simp (large H h, and-false)
 
 module _ (s : List ℕ) (at : ℕ) where
   -- a negative W or H is answered by 1
-  pub negative-picture : (32768 ≤ field s at 2) ⊎ (32768 ≤ field s at 3) → answerAt s at ≡ record { code = 1; mv = record { x = pos 0; y = pos 0 } }
+  pub negative-picture : (32768 ≤ field s at 2) ⊎ (32768 ≤ field s at 3) → answerAt s at ≡ record { code = 1; mv = record { x = pos 0; y = pos 0 }; moved = nothingMoved }
   unfolding answerAt mvClip
   negative-picture h = rw (refused 1 _ _ (bad _ _ h))
 

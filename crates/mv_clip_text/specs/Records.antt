@@ -8,7 +8,7 @@ use lib.ListN.{length}
 use Rattle.evc_int.specs.LowBits.{signed16}
 use Rattle.evc_bytes.specs.Bytes.{numberAt}
 use Rattle.evc_clip.specs.declared.EvcClipped.{EvcClipped}
-use Rattle.evc_clip.specs.Clip.{mvClip}
+use Rattle.evc_clip.specs.Clip.{nothingMoved, mvClip}
 use Rattle.mv_clip_text.specs.Decimal.{decimal, signedDecimal}
 
 -- "16-byte records": field k of the record at `at`, two bytes, "low byte first"
@@ -34,7 +34,7 @@ lines s (suc n) = lines s n ++ line (answerAt s (16 * n))
 
 -- "an incomplete last record prints as `4 0 0`"
 abbrev pub incomplete : EvcClipped
-incomplete = record { code = 4; mv = record { x = pos 0; y = pos 0 } }
+incomplete = record { code = 4; mv = record { x = pos 0; y = pos 0 }; moved = nothingMoved }
 
 unfoldable pub text : List ℕ → List ℕ
 text s = lines s (length s / 16) ++ cond (eqb (length s % 16) 0) [] (line incomplete)

@@ -7,6 +7,8 @@ ghost use Rattle.mv_clip_text.specs.Decimal.{digit, decimal, signedDecim
 ghost use Rattle.mv_clip_text.specs.Records.{field, answerAt, line, text};
 ghost use Rattle.mv_clip_text.specs.Inner.{Wrote};
 use evc_clip::EvcClipped;
+use evc_clip::EvcMoved;
+use evc_clip::NOT_MOVED;
 use evc_def::EvcBlock;
 use evc_def::EvcMv;
 use libc::STDERR_FILENO;
@@ -136,6 +138,10 @@ fn chunk_text(records: &[u8], out: &mut [u8]) -> usize
     let incomplete = EvcClipped {
         code: 4,
         mv: EvcMv { x: 0, y: 0 },
+        moved: EvcMoved {
+            x: NOT_MOVED,
+            y: NOT_MOVED,
+        },
     };
     put_line(out, at, incomplete)
 }

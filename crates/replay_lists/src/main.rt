@@ -64,6 +64,10 @@ fn make_target(r: &Record, y: &mut [u16], u: &mut [u16], v: &mut [u16]) {
 fn print_answer(answer: EvcReplay, y: &[u16], u: &[u16], v: &[u16]) {
     evc_lists::print(answer.code as u64);
     evc_lists::print_next(answer.index);
+    evc_lists::print_next(answer.across_low);
+    evc_lists::print_next(answer.across_high);
+    evc_lists::print_next(answer.down_low);
+    evc_lists::print_next(answer.down_high);
     evc_lists::print_next(evc_lists::hash(y));
     evc_lists::print_next(evc_lists::hash(u));
     evc_lists::print_next(evc_lists::hash(v));

@@ -8,30 +8,40 @@ use Rattle.evc_def.specs.Codes.{firstOf, blockChecks, zeroMv}
 use Rattle.evc_def.specs.declared.EvcBlock.{EvcBlock}
 use Rattle.evc_def.specs.declared.EvcMv.{EvcMv}
 use Rattle.evc_def.proofs.Blocks.{allowed-block}
-use Rattle.evc_clip.specs.Clip.{clipMv, mvClip}
+use Rattle.evc_clip.specs.Clip.{clipMv, movedMv, nothingMoved, mvClip}
+use Rattle.evc_clip.specs.declared.EvcMoved.{EvcMoved}
 use Rattle.evc_clip.proofs.mv_clip.Statement.{statement}
 use Rattle.evc_clip.proofs.mv_clip.Tie as tie
 
 module _ (b : EvcBlock) (mv : EvcMv) where
-  refusal : (code : ℕ) → code ≡ firstOf (blockChecks b) → (code ≡ 0 → ⊥) → record { code = code; mv = zeroMv } ≡ mvClip b mv
+  refusal : (code : ℕ) (m : EvcMoved) → code ≡ firstOf (blockChecks b) → (code ≡ 0 → ⊥) → m ≡ nothingMoved → record { code = code; mv = zeroMv; moved = m } ≡ mvClip b mv
   unfolding mvClip
-  refusal code e n = rw (sym e, ne-eqb code 0 n)
+  refusal code m e n q = rw (sym e, ne-eqb code 0 n, q)
 
-  done : (r : EvcMv) → firstOf (blockChecks b) ≡ 0 → r ≡ clipMv b mv → record { code = 0; mv = r } ≡ mvClip b mv
+  done : (r : EvcMv) (m : EvcMoved) → firstOf (blockChecks b) ≡ 0 → r ≡ clipMv b mv → m ≡ movedMv b mv → record { code = 0; mv = r; moved = m } ≡ mvClip b mv
   unfolding mvClip
-  done r e p = rw (e, p)
+  done r m e p q = rw (e, p, q)
 
 returns : tie.Need-returns
-returns c = refusal _ _ _ (c .before .block-code .ensures) (c .if1 .taken)
+returns c = let t = c .before in refusal _ _ _ _ (t .before .block-code .ensures) (t .if1 .taken) (c .nothing-moved .ensures)
 
 accepted : (c : tie.Else1) → firstOf (blockChecks (c .before .before .args .block)) ≡ 0
 accepted c = sym (c .before .block-code .ensures) ∙ c .if1 .left
 
+clipped-place-requires : tie.Need-clipped-place-requires
+clipped-place-requires c κs = allowed-block _ (accepted c)
+
 clip-mv-requires : tie.Need-clip-mv-requires
-clip-mv-requires c κs = allowed-block _ (accepted c)
+clip-mv-requires c κs = allowed-block _ (accepted (c .before))
+
+moved-mv-requires : tie.Need-moved-mv-requires
+moved-mv-requires c κs =
+    let g = c .before in
+    let a = allowed-block _ (accepted (g .before)) in
+    (a .0, (a .1, g .clipped-place .ensures))
 
 returns-2 : tie.Need-returns-2
-returns-2 c = done _ _ _ (accepted (c .before)) (c .clip-mv .ensures)
+returns-2 c = done _ _ _ _ (accepted (c .before .before .before)) (c .before .clip-mv .ensures) (c .moved-mv .ensures)
 
 pub mv-clip-spec : {M : Type 1} → statement M
-mv-clip-spec = tie.close (tie.spec (λ c κs. search needs) returns clip-mv-requires returns-2)
+mv-clip-spec = tie.close (tie.spec (λ c κs. search needs) (λ c κs. search needs) returns clipped-place-requires clip-mv-requires moved-mv-requires returns-2)

@@ -10,6 +10,7 @@ use Rattle.evc_def.specs.declared.EvcBlock.{EvcBlock}
 use Rattle.evc_def.proofs.Blocks.{allowed-block}
 use Rattle.evc_def.proofs.Codes.{stops}
 use Rattle.evc_mc.specs.Block.{RefPicList, refPicList, withSamples, listSample, firstSample, isBi, mc2Code, mc2First, mc2Second}
+use Rattle.evc_mc.proofs.Answers.{silent, reports}
 use Rattle.evc_mc.proofs.evc_mc2.Statement.{statement}
 use Rattle.evc_mc.proofs.evc_mc2.Tie as tie
 
@@ -32,9 +33,12 @@ start c = c .before .before .before .before .before .before .before .before .bef
 
 returns : tie.Need-returns
 returns c =
-    let a = start (c .before) .args in
-    let e = block-refused (a .block) (refPicList (a .list0) (a .y0 .now) (a .u0 .now) (a .v0 .now)) (refPicList (a .list1) (a .y1 .now) (a .u1 .now) (a .v1 .now)) (a .pred0 .now) (a .pred1 .now) _ (c .before .block-code .ensures) (c .if1 .taken) in
-    (e, untouched (a .block) (refPicList (a .list0) (a .y0 .now) (a .u0 .now) (a .v0 .now)) (refPicList (a .list1) (a .y1 .now) (a .u1 .now) (a .v1 .now)) (a .pred0 .now) (a .pred1 .now) _ e (c .if1 .taken))
+    let t = c .before in
+    let a = start (t .before) .args in
+    let l = refPicList (a .list0) (a .y0 .now) (a .u0 .now) (a .v0 .now) in
+    let m = refPicList (a .list1) (a .y1 .now) (a .u1 .now) (a .v1 .now) in
+    let e = block-refused (a .block) l m (a .pred0 .now) (a .pred1 .now) _ (t .before .block-code .ensures) (t .if1 .taken) in
+    (silent _ _ _ _ _ e (t .if1 .taken) _ (c .refused .ensures), untouched (a .block) l m (a .pred0 .now) (a .pred1 .now) _ e (t .if1 .taken))
 
 good : (c : tie.Else1) → firstOf (blockChecks (start (c .before) .args .block)) ≡ 0
 good c = sym (c .before .block-code .ensures) ∙ c .if1 .left
@@ -46,9 +50,12 @@ mc2-code-requires c κs =
 
 returns-2 : tie.Need-returns-2
 returns-2 c =
-    let a = start (c .before .before .before .before .before .before .before) .args in
-    let e = c .before .mc2-code .ensures in
-    (e, untouched (a .block) (refPicList (a .list0) (a .y0 .now) (a .u0 .now) (a .v0 .now)) (refPicList (a .list1) (a .y1 .now) (a .u1 .now) (a .v1 .now)) (a .pred0 .now) (a .pred1 .now) _ e (c .if2 .taken))
+    let t = c .before in
+    let a = start (t .before .before .before .before .before .before .before) .args in
+    let l = refPicList (a .list0) (a .y0 .now) (a .u0 .now) (a .v0 .now) in
+    let m = refPicList (a .list1) (a .y1 .now) (a .u1 .now) (a .v1 .now) in
+    let e = t .before .mc2-code .ensures in
+    (silent _ _ _ _ _ e (t .if2 .taken) _ (c .refused2 .ensures), untouched (a .block) l m (a .pred0 .now) (a .pred1 .now) _ e (t .if2 .taken))
 
 accepted : (c : tie.Else2) → let a = start (c .before .before .before .before .before .before .before) .args in mc2Code (a .block) (refPicList (a .list0) (a .y0 .now) (a .u0 .now) (a .v0 .now)) (refPicList (a .list1) (a .y1 .now) (a .u1 .now) (a .v1 .now)) (a .pred0 .now) (a .pred1 .now) ≡ 0
 accepted c = sym (c .before .mc2-code .ensures) ∙ c .if2 .left
@@ -59,26 +66,44 @@ predict-lists-requires c κs =
     let k = f .before .before .before .before in
     ((k .before .clipped-place .ensures, k .clipped-place2 .ensures), accepted f)
 
+-- the blocks are predicted, and the reports are left
+abbrev clipped : tie.After-slice-known4 → tie.After-clipped-place2
+clipped c = c .before .before .before .before .before .before .before .before .before .before .before
+
+list-moved-requires : tie.Need-list-moved-requires
+list-moved-requires c κs = let k = clipped c in (good (k .before .before), k .before .clipped-place .ensures)
+
+list-moved-requires-2 : tie.Need-list-moved-requires-2
+list-moved-requires-2 c κs = let k = clipped (c .before) in (good (k .before .before), k .clipped-place2 .ensures)
+
 returns-3 : tie.Need-returns-3
 returns-3 c =
-    let k = c .before .before .before .before in
+    let k = c .before .before .before .before .before .before in
     let f = k .before .before .before in
     let a = start (f .before .before .before .before .before .before .before) .args in
-    (f .before .mc2-code .ensures, predicted (a .block) (refPicList (a .list0) (a .y0 .now) (a .u0 .now) (a .v0 .now)) (refPicList (a .list1) (a .y1 .now) (a .u1 .now) (a .v1 .now)) (a .pred0 .now) (a .pred1 .now) (accepted f) _ _ (k .predict-lists .ensures .0) (k .predict-lists .ensures .1))
+    let l = refPicList (a .list0) (a .y0 .now) (a .u0 .now) (a .v0 .now) in
+    let m = refPicList (a .list1) (a .y1 .now) (a .u1 .now) (a .v1 .now) in (
+      reports _ _ _ _ _ (f .before .mc2-code .ensures) (accepted f) _ _ (c .before .list-moved .ensures) (c .list-moved2 .ensures),
+      predicted (a .block) l m (a .pred0 .now) (a .pred1 .now) (accepted f) _ _ (k .predict-lists .ensures .0) (k .predict-lists .ensures .1),
+    )
 
 pub evc-mc2-spec : {M : Type 1} → statement M
 evc-mc2-spec =
     tie.close
     (tie.spec
     (λ c κs. search needs)
+    (λ c κs. search needs)
     returns
     (λ c κs. allowed-block _ (good c))
     (λ c κs. allowed-block _ (good (c .before)))
     mc2-code-requires
+    (λ c κs. search needs)
     (λ c. search needs)
     (λ c. search needs)
     returns-2
     predict-lists-requires
+    list-moved-requires
+    list-moved-requires-2
     (λ c. search needs)
     (λ c. search needs)
     returns-3)

@@ -3,82 +3,79 @@ use borrow.Author.Needs.{needs}
 use mathlib.Core.Bool.{false}
 use mathlib.Core.Path.{_≡_, sym, subst, _∙_}
 use Rattle.evc_trace.specs.declared.TraceHeader.{TraceHeader}
-use Rattle.evc_record.specs.Record.{planes, pictureShort}
-use Rattle.evc_replay.specs.Replay.{}
-use Rattle.evc_replay.proofs.Header.{good-header, not-begun, begun}
+use Rattle.evc_record.specs.Record.{Planes, planes, pictureShort}
+use Rattle.evc_replay.specs.Replay.{headerCode}
+use Rattle.evc_replay.proofs.Header.{good-header, not-begun, begun, nothing-counted, counted}
+use Rattle.evc_replay.proofs.Records.{with-target}
 use Rattle.evc_replay.proofs.evc_trace_replay.Statement.{statement}
 use Rattle.evc_replay.proofs.evc_trace_replay.Tie as tie
 
-header-code-requires : tie.Need-header-code-requires
-header-code-requires c κs = search needs
+abbrev ref0 : tie.Start → Planes
+ref0 s = let a = s .args in planes (a .y0 .now) (a .u0 .now) (a .v0 .now)
 
-same-length : tie.Need-same-length
-same-length c = search needs
+abbrev ref1 : tie.Start → Planes
+ref1 s = let a = s .args in planes (a .y1 .now) (a .u1 .now) (a .v1 .now)
 
-same-length-2 : tie.Need-same-length-2
-same-length-2 c = search needs
+abbrev target : tie.Start → Planes
+target s = let a = s .args in planes (a .y .now) (a .u .now) (a .v .now)
 
-same-length-3 : tie.Need-same-length-3
-same-length-3 c = search needs
+abbrev start : tie.After-header-code → tie.Start
+start c = c .before .before .before .before .before .before .before .before .before .before .before .before .before .before
 
 returns : tie.Need-returns
 returns c =
-    let a = c .before .before .before .before .before .before .before .before .before .before .before .before .before .before .before .args in
-    let p = planes (a .y0 .now) (a .u0 .now) (a .v0 .now) in
-    let q = planes (a .y1 .now) (a .u1 .now) (a .v1 .now) in
-    let t = planes (a .y .now) (a .u .now) (a .v .now) in
-    let s = a .trace .now in
-    not-begun s p q (a .has-col) (a .col-mv .now) t _ (c .before .header-code .ensures) (c .if1 .taken)
+    let t = c .before .before in
+    let s = start (t .before) in
+    let a = s .args in
+    let e = t .before .header-code .ensures in
+    let n = c .answer .ensures in (
+      with-target _ _ _ (n .0) ∙ not-begun (a .trace .now) (ref0 s) (ref1 s) (a .has-col) (a .col-mv .now) (target s) _ e (t .if1 .taken),
+      n .1 ∙ c .before .none .ensures ∙ nothing-counted (a .trace .now) (ref0 s) (ref1 s) (a .has-col) (a .col-mv .now) (target s) _ e (t .if1 .taken),
+    )
+
+accepted : (c : tie.Else1) → let s = start (c .before) in headerCode (s .args .trace .now) (ref0 s) (ref1 s) (s .args .has-col) (s .args .col-mv .now) (target s) ≡ 0
+accepted c = sym (c .before .header-code .ensures) ∙ c .if1 .left
 
 read-header-requires : tie.Need-read-header-requires
 read-header-requires c κs =
-    let a = c .before .before .before .before .before .before .before .before .before .before .before .before .before .before .before .args in
-    let p = planes (a .y0 .now) (a .u0 .now) (a .v0 .now) in
-    let q = planes (a .y1 .now) (a .u1 .now) (a .v1 .now) in
-    let t = planes (a .y .now) (a .u .now) (a .v .now) in
-    let s = a .trace .now in
-    good-header s p q (a .has-col) (a .col-mv .now) t (sym (c .before .header-code .ensures) ∙ c .if1 .left) .0
+    let s = start (c .before) in
+    let a = s .args in
+    good-header (a .trace .now) (ref0 s) (ref1 s) (a .has-col) (a .col-mv .now) (target s) (accepted c) .0
 
 replay-records-requires : tie.Need-replay-records-requires
 replay-records-requires c κs =
-    let a = c .before .before .before .before .before .before .before .before .before .before .before .before .before .before .before .before .before .before .before .args in
-    let p = planes (a .y0 .now) (a .u0 .now) (a .v0 .now) in
-    let q = planes (a .y1 .now) (a .u1 .now) (a .v1 .now) in
-    let t = planes (a .y .now) (a .u .now) (a .v .now) in
-    let s = a .trace .now in
-    let g = good-header s p q (a .has-col) (a .col-mv .now) t (sym (c .before .before .before .before .before .header-code .ensures) ∙ c .before .before .before .before .if1 .left) in
-    (subst (λ (h : TraceHeader). pictureShort (h .«pic_w») (h .«pic_h») t ≡ false) (sym (c .before .before .before .read-header .ensures)) (g .1), g .0)
-
-same-length-4 : tie.Need-same-length-4
-same-length-4 c = search needs
-
-same-length-5 : tie.Need-same-length-5
-same-length-5 c = search needs
-
-same-length-6 : tie.Need-same-length-6
-same-length-6 c = search needs
+    let h = c .before .before .before in
+    let s = start (h .before .before) in
+    let a = s .args in
+    let g = good-header (a .trace .now) (ref0 s) (ref1 s) (a .has-col) (a .col-mv .now) (target s) (accepted (h .before)) in
+    (subst (λ (h : TraceHeader). pictureShort (h .«pic_w») (h .«pic_h») (target s) ≡ false) (sym (h .read-header .ensures)) (g .1), g .0)
 
 returns-2 : tie.Need-returns-2
 returns-2 c =
-    let a = c .before .before .before .before .before .before .before .before .before .before .before .before .before .before .before .before .before .before .before .before .before .before .before .before .before .before .args in
-    let p = planes (a .y0 .now) (a .u0 .now) (a .v0 .now) in
-    let q = planes (a .y1 .now) (a .u1 .now) (a .v1 .now) in
-    let t = planes (a .y .now) (a .u .now) (a .v .now) in
-    let s = a .trace .now in
-    begun s p q (a .has-col) (a .col-mv .now) t _ _ (sym (c .before .before .before .before .before .before .before .before .before .before .before .before .header-code .ensures) ∙ c .before .before .before .before .before .before .before .before .before .before .before .if1 .left) (sym (c .before .before .before .before .before .before .before .before .before .before .read-header .ensures)) (c .before .before .before .before .before .before .replay-records .ensures)
+    let r = c .before .before .before .before .before .before in
+    let h = r .before .before .before .before in
+    let s = start (h .before .before) in
+    let a = s .args in
+    let z = accepted (h .before) in
+    let eh = sym (h .read-header .ensures) in (
+      begun (a .trace .now) (ref0 s) (ref1 s) (a .has-col) (a .col-mv .now) (target s) _ _ z eh (r .replay-records .ensures .0),
+      counted (a .trace .now) (ref0 s) (ref1 s) (a .has-col) (a .col-mv .now) (target s) _ _ z eh (r .replay-records .ensures .1),
+    )
 
 pub evc-trace-replay-spec : {M : Type 1} → statement M
 evc-trace-replay-spec =
     tie.close
     (tie.spec
-    header-code-requires
-    same-length
-    same-length-2
-    same-length-3
+    (λ c κs. search needs)
+    (λ c κs. search needs)
+    (λ c κs. search needs)
+    (λ c. search needs)
+    (λ c. search needs)
+    (λ c. search needs)
     returns
     read-header-requires
     replay-records-requires
-    same-length-4
-    same-length-5
-    same-length-6
+    (λ c. search needs)
+    (λ c. search needs)
+    (λ c. search needs)
     returns-2)
