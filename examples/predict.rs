@@ -1,8 +1,9 @@
-//! Predicts a block from half a sample to its right, and notes why another block is refused.
+//! Predicts a block from half a sample to its right, and notes which vector leads too far out of the
+//! picture and why another block is refused.
 //!
 //!     cargo run --offline --manifest-path rust/Cargo.toml --package evc-inter --example predict
 
-use evc_inter::{EvcBlock, EvcMv, PaddedPicture, Picture, Predictor, Reference, Refusal};
+use evc_inter::{EvcBlock, EvcMv, MovedMv, PaddedPicture, Picture, Predictor, Reference, Refusal};
 
 /// A padded picture whose every row is 8 * x.
 fn ramp(pic_w: u32, pic_h: u32) -> Result<PaddedPicture, Refusal> {
@@ -18,15 +19,11 @@ fn ramp(pic_w: u32, pic_h: u32) -> Result<PaddedPicture, Refusal> {
 fn main() -> Result<(), Refusal> {
     let (pic_w, pic_h) = (64, 32);
     let picture = &ramp(pic_w, pic_h)?;
-    let mv = EvcMv { x: 2, y: 0 }; // two quarter samples to the right
-    let list0 = Reference {
-        picture,
-        mv,
-        poc: 0,
-    };
+    let near = EvcMv { x: 2, y: 0 }; // two quarter samples to the right
+    let far = EvcMv { x: -2000, y: 0 };
     let mut predictor = Predictor::new();
 
-    for x in [16, 60] {
+    for (x, mv) in [(16, near), (24, far), (60, near)] {
         let (y, w, h) = (8, 8, 4);
         let block = EvcBlock {
             pic_w,
@@ -36,6 +33,11 @@ fn main() -> Result<(), Refusal> {
             w,
             h,
         };
+        let list0 = Reference {
+            picture,
+            mv,
+            poc: 0,
+        };
         match predictor.predict(block, [Some(list0), None]) {
             Ok(prediction) => {
                 print!("a row of the block:");
@@ -43,6 +45,11 @@ fn main() -> Result<(), Refusal> {
                     print!(" {sample}");
                 }
                 println!();
+                let [moved, _] = prediction.moved();
+                if moved.is_moved() {
+                    let MovedMv { x: across, y: down } = moved;
+                    println!("reel 7, block at {x}, {y}: vector across {across}, down {down}");
+                }
             }
             Err(refusal) => println!("reel 7, block at {x}, {y}: {refusal}"),
         }

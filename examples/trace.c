@@ -1,5 +1,6 @@
 /* Predicts three blocks of a picture and keeps each in a trace, as a decoder does; replays the trace into another
-   picture, as the support desk does, and compares the two; then notes where a damaged trace is refused.
+   picture, as the support desk does, and compares the two; then notes where a damaged trace is refused. Of both replays
+   it says how many components of vectors lead too far out of the picture.
    With what is installed by 'evc install', and in the repository:
 
      gcc -std=c99 trace.c $(pkg-config --cflags --libs evc_inter) -o trace
@@ -47,7 +48,7 @@ static void predict(EvcBlock block, EvcList list0, EvcList list1, EvcTraceRecord
     static uint16_t pred0[EVC_CU_LEN], pred1[EVC_CU_LEN];
     done("record", evc_trace_write_record(PIC_W, PIC_H, record, trace + trace_len, sizeof trace - trace_len));
     trace_len += EVC_TRACE_RECORD_LEN;
-    done("block", evc_mc2(block, list0, PLANES(ref0), list1, PLANES(ref1), pred0, EVC_CU_LEN, pred1, EVC_CU_LEN));
+    done("block", evc_mc2(block, list0, PLANES(ref0), list1, PLANES(ref1), pred0, EVC_CU_LEN, pred1, EVC_CU_LEN).code);
     evc_cu_put(block, pred0, decoded.y, decoded.u, decoded.v);
 }
 
@@ -56,10 +57,15 @@ static EvcReplay replay(Picture target) {
                             PLANES(target));
 }
 
+static void print_moved(EvcReplay r) {
+    printf("across %" PRIu64 " low, %" PRIu64 " high, down %" PRIu64 " low, %" PRIu64 " high\n",
+           r.across_low, r.across_high, r.down_low, r.down_high);
+}
+
 int main(void) {
     const EvcBlock left = {PIC_W, PIC_H, 0, 0, 8, 8}, right = {PIC_W, PIC_H, 8, 0, 8, 8};
     const EvcBlock lower = {PIC_W, PIC_H, 0, 8, 16, 8};
-    const EvcList list0 = {true, {2, 0}, POC0}, list1 = {true, {0, 0}, POC1}, unused = {false, {0, 0}, 0};
+    const EvcList list0 = {true, {2, 300}, POC0}, list1 = {true, {-300, 300}, POC1}, unused = {false, {0, 0}, 0};
     ref0 = picture(PIC_W, PIC_H, 8), ref1 = picture(PIC_W, PIC_H, 16), decoded = picture(PIC_W, PIC_H, 0);
     col_mv[EVC_MOTION_LEN * evc_unit_at(PIC_W, PIC_H, lower.x, lower.y)] = 16; /* four samples to the right */
 
@@ -82,10 +88,14 @@ int main(void) {
     printf("%" PRIu64 " records, replayed: %s picture\n", r.index, same ? "the same" : "another");
     printf("the last row:");
     for (size_t x = 0; x < luma.width; x++) printf(" %d", replayed.y[evc_plane_at(&luma, x, luma.height - 1)]);
+    printf("\nreel 7, clipped: ");
+    print_moved(r);
 
     trace[EVC_TRACE_HEADER_LEN + EVC_TRACE_RECORD_LEN + 4] = 12; /* the width in record 1 */
     r = replay(replayed);
-    printf("\nreel 7, record %" PRIu64 ": refused (%" PRIu32 "): %s\n", r.index, r.code, evc_message(r.code));
+    printf("reel 7, record %" PRIu64 ": refused (%" PRIu32 "): %s\n", r.index, r.code, evc_message(r.code));
+    printf("reel 7, clipped before it: ");
+    print_moved(r);
     free(ref0.y), free(ref1.y), free(decoded.y), free(replayed.y);
     return same ? EXIT_SUCCESS : EXIT_FAILURE;
 }

@@ -216,14 +216,14 @@ fn same_motion(list0: EvcList, gmv0: QpelPlace, list1: EvcList, gmv1: QpelPlace)
 // ---- the reports
 
 // A list that is not in use has none.
-fn list_moved(b: EvcBlock, list: EvcList, gmv: QpelPlace) -> EvcMoved
-    requires { ⌜ (firstOf (blockChecks b) ≡ 0) × (gmv ≡ clippedPlace b (list .mv)) ⌝ }
+fn list_moved(b: EvcBlock, list: EvcList) -> EvcMoved
+    requires { ⌜ firstOf (blockChecks b) ≡ 0 ⌝ }
     ensures { λ r. ⌜ r ≡ listMoved b list ⌝ }
 {
     if !list.used {
         return evc_clip::nothing_moved();
     }
-    evc_clip::moved_mv(b, list.mv, gmv)
+    evc_clip::moved_mv(b, list.mv)
 }
 
 pub fn refused(code: u32) -> EvcPredicted
@@ -342,7 +342,7 @@ pub fn evc_mc2(
     );
     EvcPredicted {
         code,
-        moved0: list_moved(block, list0, gmv0),
-        moved1: list_moved(block, list1, gmv1),
+        moved0: list_moved(block, list0),
+        moved1: list_moved(block, list1),
     }
 }

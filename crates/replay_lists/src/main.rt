@@ -1,4 +1,4 @@
-//! Traces, each with its pictures: for each a line with the number returned, the index and a number for each plane of the target. rust/README.md has the records.
+//! Traces, each with its pictures: for each a line with the number returned, the index, the counts and a number for each plane of the target. rust/README.md has the records.
 ghost use Prim.Native.Nat.{_<_, _≤_};
 ghost use lib.ListN.{length};
 use evc_lists::MAX_PLANE_LEN;

@@ -5,7 +5,7 @@ use crate::measure::least;
 use crate::ours::List;
 use crate::report::*;
 use crate::{limit, ours};
-use oracle::model::{Block, Mv};
+use oracle::model::{Block, Mv, Predicted};
 use oracle::{Picture, Plane, References};
 use std::hint::black_box;
 
@@ -36,7 +36,13 @@ impl Pictures {
         }
     }
 
-    pub fn ours(&self, b: &Block, used: [bool; 2], mv: [Mv; 2], pred: &mut [Vec<u16>; 2]) -> u32 {
+    pub fn ours(
+        &self,
+        b: &Block,
+        used: [bool; 2],
+        mv: [Mv; 2],
+        pred: &mut [Vec<u16>; 2],
+    ) -> Predicted {
         let lists = [0, 1].map(|k| List {
             used: used[k],
             mv: mv[k],
@@ -76,7 +82,7 @@ fn compare(pictures: &Pictures, calls: &[(Block, [Mv; 2])], lists: usize) {
     for (b, mv) in calls {
         let [mut original, mut ours, mut limit] = [lent(), lent(), lent()];
         pictures.original(b, used, *mv, &mut original);
-        assert_eq!(pictures.ours(b, used, *mv, &mut ours), 0, "{b:?}");
+        assert_eq!(pictures.ours(b, used, *mv, &mut ours).code, 0, "{b:?}");
         assert_eq!(pictures.limit(b, lists, *mv, true, &mut limit), 0, "{b:?}");
         assert!(original == ours, "ours differs: {b:?} {mv:?}");
         assert!(original == limit, "the limit differs: {b:?} {mv:?}");

@@ -57,7 +57,7 @@ pub fn run(report: &mut Report) {
                 &mut |part| match rows.get(part) {
                     Some(row) => {
                         for (block, mv) in row {
-                            codes |= pictures.ours(block, [true; 2], *mv, &mut pred_b);
+                            codes |= pictures.ours(block, [true; 2], *mv, &mut pred_b).code;
                         }
                     }
                     None => {

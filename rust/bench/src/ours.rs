@@ -2,7 +2,8 @@
 
 use evc_inter::ffi::*;
 use evc_inter::{EvcBlock, EvcCandidates, EvcList, EvcMv};
-use oracle::model::{Block, Candidates, Mv, OnePlane, Pocs};
+use oracle::model::trace::Replay;
+use oracle::model::{Block, Candidates, Moved, Mv, OnePlane, Pocs, Predicted};
 
 fn vector([x, y]: Mv) -> EvcMv {
     EvcMv { x, y }
@@ -79,9 +80,9 @@ pub fn mv_dir(b: &Block, p: &Pocs, col: &[i16]) -> (u32, [Mv; 2]) {
     (r.code, [[r.mv0.x, r.mv0.y], [r.mv1.x, r.mv1.y]])
 }
 
-pub fn mv_clip(b: &Block, mv: Mv) -> (u32, Mv) {
+pub fn mv_clip(b: &Block, mv: Mv) -> (u32, Mv, Moved) {
     let r = unsafe { evc_mv_clip(block(b), vector(mv)) };
-    (r.code, [r.mv.x, r.mv.y])
+    (r.code, [r.mv.x, r.mv.y], [r.moved.x, r.moved.y])
 }
 
 pub fn mc_plane(c: &OnePlane, plane: &[u16], pred: &mut [u16]) -> u32 {
@@ -101,23 +102,24 @@ pub struct List<'a> {
 }
 
 #[rustfmt::skip]
-pub fn mc2(b: &Block, lists: &[List; 2], pred0: &mut [u16], pred1: &mut [u16]) -> u32 {
+pub fn mc2(b: &Block, lists: &[List; 2], pred0: &mut [u16], pred1: &mut [u16]) -> Predicted {
     let [list0, list1] = [0, 1].map(|k| {
         let List { used, mv, poc, .. } = lists[k];
         EvcList { used, mv: vector(mv), poc }
     });
     let [[y0, u0, v0], [y1, u1, v1]] = [lists[0].planes, lists[1].planes];
-    unsafe {
+    let r = unsafe {
         evc_mc2(block(b),
             list0, y0.as_ptr(), y0.len(), u0.as_ptr(), u0.len(), v0.as_ptr(), v0.len(),
             list1, y1.as_ptr(), y1.len(), u1.as_ptr(), u1.len(), v1.as_ptr(), v1.len(),
             pred0.as_mut_ptr(), pred0.len(), pred1.as_mut_ptr(), pred1.len())
-    }
+    };
+    Predicted { code: r.code, moved: [[r.moved0.x, r.moved0.y], [r.moved1.x, r.moved1.y]] }
 }
 
-/// With a collocated map: the number returned, and the index.
+/// With a collocated map.
 #[rustfmt::skip]
-pub fn replay(trace: &[u8], planes: [[&[u16]; 3]; 2], col: &[i16], target: [&mut [u16]; 3]) -> (u32, u64) {
+pub fn replay(trace: &[u8], planes: [[&[u16]; 3]; 2], col: &[i16], target: [&mut [u16]; 3]) -> Replay {
     let [[y0, u0, v0], [y1, u1, v1]] = planes;
     let [y, u, v] = target;
     let r = unsafe {
@@ -127,7 +129,7 @@ pub fn replay(trace: &[u8], planes: [[&[u16]; 3]; 2], col: &[i16], target: [&mut
             true, col.as_ptr(), col.len(),
             y.as_mut_ptr(), y.len(), u.as_mut_ptr(), u.len(), v.as_mut_ptr(), v.len())
     };
-    (r.code, r.index)
+    Replay { code: r.code, index: r.index, moved: [r.across_low, r.across_high, r.down_low, r.down_high] }
 }
 
 /// The number returned, the kind, and the mean across and down.

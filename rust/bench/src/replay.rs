@@ -6,7 +6,7 @@ use crate::ours::{self, List};
 use crate::report::{Report, REPLAY};
 use crate::{block, room::Room};
 use oracle::cases::{record, trace};
-use oracle::model::trace::{Header, Record};
+use oracle::model::trace::{Header, Record, Replay};
 use oracle::model::{Block, Mv, Pocs};
 use oracle::Plane;
 use std::hint::black_box;
@@ -75,7 +75,7 @@ impl Replayed {
         target
     }
 
-    fn replay(&self, target: &mut [Plane<u16>; 3]) -> (u32, u64) {
+    fn replay(&self, target: &mut [Plane<u16>; 3]) -> Replay {
         let planes = self.references.each_ref().map(samples);
         let target = target.each_mut().map(|plane| &mut plane.data[..]);
         ours::replay(&self.trace, planes, &self.col, target)
@@ -121,14 +121,15 @@ impl Replayed {
             poc: block::POCS[k],
             planes: samples(&self.references[k]),
         });
-        ours::mc2(b, &lists, pred0, pred1)
+        ours::mc2(b, &lists, pred0, pred1).code
     }
 
     /// Both leave the same in the whole of the target.
     fn compare(&self, what: &str) {
         let [mut a, mut b] = [self.target(), self.target()];
         let n = self.records.len() as u64;
-        assert_eq!(self.replay(&mut a), (0, n), "{what}");
+        let answer = self.replay(&mut a);
+        assert_eq!((answer.code, answer.index), (0, n), "{what}");
         assert_eq!(self.calls(&mut block::lent(), Some(&mut b)), 0, "{what}");
         assert!(samples(&a) == samples(&b), "{what} differs");
         let is_covered = |plane: &Plane<u16>| {
@@ -232,9 +233,10 @@ pub fn room() -> Room {
             let blocks = squares(pic, side, false, &mut Numbers::new(21));
             let replayed = Replayed::new(pic, &blocks, Some(kind));
             let mut target = replayed.target();
-            let mut answer = (9, 0);
-            room.of(&mut || answer = replayed.replay(&mut target));
-            assert_eq!(answer, (0, replayed.records.len() as u64));
+            let mut answer = None;
+            room.of(&mut || answer = Some(replayed.replay(&mut target)));
+            let Replay { code, index, .. } = answer.unwrap();
+            assert_eq!((code, index), (0, replayed.records.len() as u64));
         }
     }
     room

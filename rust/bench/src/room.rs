@@ -103,7 +103,7 @@ fn mc2() -> Room {
             for side in SIDES {
                 for (b, mv) in blocks(filtered, side) {
                     let mut code = 9;
-                    room.of(&mut || code = pictures.ours(&b, used, mv, &mut pred));
+                    room.of(&mut || code = pictures.ours(&b, used, mv, &mut pred).code);
                     assert_eq!(code, 0);
                 }
             }

@@ -4,6 +4,7 @@ use crate::cases::{Numbers, CALLS};
 use crate::measure::least;
 use crate::ours::{self, Record};
 use crate::report::{number, Report, VECTORS};
+use oracle::cases::moved_between;
 use oracle::model::{Block, Candidates, Mv, Pocs};
 use oracle::{Direct, Motion, Words};
 use std::hint::black_box;
@@ -162,7 +163,9 @@ fn clipping(report: &mut Report, what: &str, reach: i16) -> Vec<String> {
     let mut mv = || [0; 2].map(|_| numbers.below(2 * reach as u32) as i16 - reach);
     let calls: Vec<(Block, Mv)> = blocks().iter().map(|b| (*b, mv())).collect();
     for (b, mv) in &calls {
-        assert_eq!(ours::mv_clip(b, *mv), (0, original_clip(b, *mv)), "{b:?}");
+        let clipped = original_clip(b, *mv);
+        let moved = moved_between(*mv, clipped);
+        assert_eq!(ours::mv_clip(b, *mv), (0, clipped, moved), "{b:?}");
     }
     row(
         report,

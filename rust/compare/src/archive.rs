@@ -3,7 +3,7 @@
 use evc_inter::{ffi, EvcBlock, EvcCandidates, EvcList, EvcMv, EvcTraceRecord};
 use oracle::model::camera::Camera;
 use oracle::model::trace::{Lent, Record, Replay};
-use oracle::model::{Block, Collocated, List, Mv, OnePlane, Pocs};
+use oracle::model::{Block, Collocated, List, Moved, Mv, OnePlane, Pocs, Predicted};
 
 /// Whoever is compared: the archive, or a faulty one in a test.
 pub trait Calls {
@@ -19,9 +19,9 @@ pub trait Calls {
         cand: &mut EvcCandidates,
     ) -> u32;
     fn get_mv_dir(&self, b: &Block, pocs: Pocs, col: Collocated) -> (u32, [Mv; 2]);
-    fn mv_clip(&self, b: &Block, mv: Mv) -> (u32, Mv);
+    fn mv_clip(&self, b: &Block, mv: Mv) -> (u32, Mv, Moved);
     fn mc_plane(&self, c: &OnePlane, plane: &[u16], pred: &mut [u16]) -> u32;
-    fn mc2(&self, b: &Block, lists: &[List; 2], pred0: &mut [u16], pred1: &mut [u16]) -> u32;
+    fn mc2(&self, b: &Block, lists: &[List; 2], pred0: &mut [u16], pred1: &mut [u16]) -> Predicted;
     fn write_header(&self, pic: [u32; 2], poc: u16, list_poc0: u16, out: &mut [u8]) -> u32;
     fn write_record(&self, pic: [u32; 2], record: &Record, out: &mut [u8]) -> u32;
     fn replay(&self, lent: Lent, target: [&mut [u16]; 3]) -> Replay;
@@ -52,6 +52,10 @@ fn vector([x, y]: Mv) -> EvcMv {
 
 fn pair(mv: EvcMv) -> Mv {
     [mv.x, mv.y]
+}
+
+fn reports(moved: ffi::EvcMoved) -> Moved {
+    [moved.x, moved.y]
 }
 
 /// An empty buffer is lent as C's callers do it, without a place.
@@ -125,9 +129,9 @@ impl Calls for Archive {
         (r.code, [pair(r.mv0), pair(r.mv1)])
     }
 
-    fn mv_clip(&self, b: &Block, mv: Mv) -> (u32, Mv) {
+    fn mv_clip(&self, b: &Block, mv: Mv) -> (u32, Mv, Moved) {
         let r = unsafe { ffi::evc_mv_clip(block(b), vector(mv)) };
-        (r.code, pair(r.mv))
+        (r.code, pair(r.mv), reports(r.moved))
     }
 
     fn mc_plane(&self, c: &OnePlane, plane: &[u16], pred: &mut [u16]) -> u32 {
@@ -149,14 +153,14 @@ impl Calls for Archive {
         }
     }
 
-    fn mc2(&self, b: &Block, lists: &[List; 2], pred0: &mut [u16], pred1: &mut [u16]) -> u32 {
+    fn mc2(&self, b: &Block, lists: &[List; 2], pred0: &mut [u16], pred1: &mut [u16]) -> Predicted {
         let [list0, list1] = lists.each_ref().map(|l| EvcList {
             used: l.used,
             mv: vector(l.mv),
             poc: l.poc,
         });
         let [[y0, u0, v0], [y1, u1, v1]] = lists.each_ref().map(|l| l.planes);
-        unsafe {
+        let r = unsafe {
             ffi::evc_mc2(
                 block(b),
                 list0,
@@ -178,6 +182,10 @@ impl Calls for Archive {
                 pointer_mut(pred1),
                 pred1.len(),
             )
+        };
+        Predicted {
+            code: r.code,
+            moved: [r.moved0, r.moved1].map(reports),
         }
     }
 
@@ -218,7 +226,7 @@ impl Calls for Archive {
     fn replay(&self, lent: Lent, target: [&mut [u16]; 3]) -> Replay {
         let [[y0, u0, v0], [y1, u1, v1]] = lent.planes;
         let [y, u, v] = target;
-        let ffi::EvcReplay { code, index } = unsafe {
+        let r = unsafe {
             ffi::evc_trace_replay(
                 pointer(lent.trace),
                 lent.trace.len(),
@@ -245,7 +253,11 @@ impl Calls for Archive {
                 v.len(),
             )
         };
-        Replay { code, index }
+        Replay {
+            code: r.code,
+            index: r.index,
+            moved: [r.across_low, r.across_high, r.down_low, r.down_high],
+        }
     }
 
     fn camera_motion(&self, [pic_w, pic_h]: [u32; 2], map: &[i16], words: &[u32]) -> Camera {

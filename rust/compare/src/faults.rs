@@ -8,7 +8,7 @@ use crate::cases::demand3::Demand3;
 use crate::cases::invisible::{Invisible, UpTo};
 use crate::cases::one_plane::Planes;
 use crate::cases::padding::Padding;
-use crate::cases::replay::Replays;
+use crate::cases::replay::{Own, Replays};
 use crate::cases::trace::{Headers, Records};
 use crate::cases::units::{Directs, Flags, Motions};
 use crate::cases::{Case, BATCH};
@@ -16,9 +16,11 @@ use crate::lent::units;
 use crate::run::{self, Run};
 use crate::sys::{End, ALARM};
 use evc_inter::EvcCandidates;
+use oracle::cases::other_side;
 use oracle::model::camera::{is_counted, Camera, MOVING, STILL};
 use oracle::model::trace::{self, Header, Record, Replay, HEADER_LEN, RECORD_LEN};
-use oracle::model::{self, Block, Collocated, List, Mv, OnePlane, Pocs, PRED_LEN};
+use oracle::model::{self, Block, Collocated, List, Moved, Mv, OnePlane, Pocs, Predicted};
+use oracle::model::{HIGH, LOW, NOTHING_MOVED, NOT_MOVED, PRED_LEN};
 
 #[derive(Clone, Copy, PartialEq)]
 enum Fault {
@@ -59,6 +61,22 @@ enum Fault {
     LeansLeft,
     /// Never ends.
     Loops,
+    /// The direction in which a component was moved, in place of the side.
+    ReportsDirection,
+    /// A component at a limit is reported.
+    ReportsAtLimit,
+    /// Nothing is reported of the high side.
+    SkipsHigh,
+    /// Across and down change places in the reports.
+    AcrossForDown,
+    /// Reports besides a refusal.
+    ReportsRefused,
+    /// A list not in use is reported.
+    ReportsUnused,
+    /// Nothing is reported of list 1.
+    SkipsList1,
+    /// Nothing is reported of list 1 where list 0 alone stands.
+    SkipsEqual,
     /// The counts of a header high byte first.
     HighByteFirst,
     /// A record's 12 before its 4.
@@ -89,6 +107,14 @@ enum Fault {
     NeedsNoPlane,
     /// Puts back a byte of the trace.
     WritesTrace,
+    /// The counts are 0 after a refusal.
+    ForgetsCounts,
+    /// The vectors of a refused record are counted.
+    CountsRefused,
+    /// Those of list 0 alone are counted.
+    CountsList0,
+    /// The counts across and down change places.
+    ExchangesCounts,
     /// The means in quarter samples.
     InQuarters,
     /// The means in single precision.
@@ -120,6 +146,51 @@ enum Fault {
 use Fault::*;
 
 struct Faulty(Fault);
+
+impl Faulty {
+    /// The reports of a vector that is in use.
+    fn reports(&self, b: &Block, mv: Mv, moved: Moved) -> Moved {
+        let [x, y] = moved;
+        match self.0 {
+            ReportsDirection => moved.map(other_side),
+            ReportsAtLimit => {
+                // one quarter sample farther out it is moved
+                let [lower, higher] =
+                    [-1, 1].map(|more| Archive.mv_clip(b, mv.map(|v| v.saturating_add(more))).2);
+                [0, 1].map(|d| moved[d].max(lower[d]).max(higher[d]))
+            }
+            SkipsHigh => moved.map(|report| if report == HIGH { NOT_MOVED } else { report }),
+            AcrossForDown => [y, x],
+            _ => moved,
+        }
+    }
+
+    /// The reports of a block.
+    fn reports_of_lists(&self, b: &Block, lists: &[List; 2], answer: Predicted) -> [Moved; 2] {
+        let Predicted { code, moved } = answer;
+        let by_itself = lists.map(|list| Archive.mv_clip(b, list.mv).2);
+        let of_used = |reports: [Moved; 2]| {
+            [0, 1].map(|k| match lists[k].used {
+                true => reports[k],
+                false => NOTHING_MOVED,
+            })
+        };
+        if code != 0 {
+            return match self.0 {
+                ReportsRefused => of_used(by_itself),
+                _ => moved,
+            };
+        }
+        let [first, second] = of_used([0, 1].map(|k| self.reports(b, lists[k].mv, moved[k])));
+        let is_alone = lists[0].used && lists[1].used && !model::is_bi(b, lists);
+        match self.0 {
+            ReportsUnused => by_itself,
+            SkipsList1 => [first, NOTHING_MOVED],
+            SkipsEqual if is_alone => [first, NOTHING_MOVED],
+            _ => [first, second],
+        }
+    }
+}
 
 impl Calls for Faulty {
     fn pad(&self, chroma: bool, pic: [u32; 2], plane: &mut [u16]) -> u32 {
@@ -172,12 +243,14 @@ impl Calls for Faulty {
         (code, mv)
     }
 
-    fn mv_clip(&self, b: &Block, mv: Mv) -> (u32, Mv) {
-        let (code, clipped) = Archive.mv_clip(b, mv);
+    fn mv_clip(&self, b: &Block, mv: Mv) -> (u32, Mv, Moved) {
+        let (code, clipped, moved) = Archive.mv_clip(b, mv);
         match self.0 {
-            Wraps if code == 0 && !b.in_domain(mv) => (0, mv),
-            ClipsRefused if code == 2 => (2, mv),
-            _ => (code, clipped),
+            Wraps if code == 0 && !b.in_domain(mv) => (0, mv, NOTHING_MOVED),
+            ClipsRefused if code == 2 => (2, mv, moved),
+            ReportsRefused if code == 2 => (2, clipped, [LOW, NOT_MOVED]),
+            _ if code == 0 => (0, clipped, self.reports(b, mv, moved)),
+            _ => (code, clipped, moved),
         }
     }
 
@@ -199,14 +272,16 @@ impl Calls for Faulty {
         code
     }
 
-    fn mc2(&self, b: &Block, lists: &[List; 2], pred0: &mut [u16], pred1: &mut [u16]) -> u32 {
+    fn mc2(&self, b: &Block, lists: &[List; 2], pred0: &mut [u16], pred1: &mut [u16]) -> Predicted {
         let mut lists = *lists;
         let both = lists[0].used && lists[1].used;
         let is_last = b.place[0].wrapping_add(b.side[0]) == b.pic[0];
         match self.0 {
             NeedsBoth if lists.iter().any(|list| list.planes[2].is_empty()) => {
-                let code = Archive.mc2(b, &lists, pred0, pred1);
-                return if code == 0 { 4 } else { code };
+                let answer = Archive.mc2(b, &lists, pred0, pred1);
+                let (code, moved) = (4, [NOTHING_MOVED; 2]);
+                let needs = Predicted { code, moved };
+                return if answer.code == 0 { needs } else { answer };
             }
             LeansLeft if is_last => {
                 for list in &mut lists {
@@ -218,8 +293,8 @@ impl Calls for Faulty {
             },
             _ => (),
         }
-        let code = Archive.mc2(b, &lists, pred0, pred1);
-        if code == 0 {
+        let mut answer = Archive.mc2(b, &lists, pred0, pred1);
+        if answer.code == 0 {
             let last = (b.side[0] * b.side[1]) as usize - 1;
             match self.0 {
                 OneSample if both && b.side[0] == 16 => pred0[last] ^= 1,
@@ -238,7 +313,8 @@ impl Calls for Faulty {
                 _ => (),
             }
         }
-        code
+        answer.moved = self.reports_of_lists(b, &lists, answer);
+        answer
     }
 
     fn write_header(&self, pic: [u32; 2], poc: u16, list_poc0: u16, out: &mut [u8]) -> u32 {
@@ -285,7 +361,7 @@ impl Calls for Faulty {
             ..lent
         };
         let mut answer = Archive.replay(given, [&mut *y, &mut *u, &mut *v]);
-        let Replay { code, index } = answer;
+        let Replay { code, index, .. } = answer;
         match self.0 {
             ForgetsIndex if code != 0 => answer.index = 0,
             LastIndex if code == 0 => answer.index = index.saturating_sub(1),
@@ -315,6 +391,19 @@ impl Calls for Faulty {
                 let first = lent.trace.as_ptr() as *mut u8;
                 std::ptr::write_volatile(first, *first);
             },
+            ForgetsCounts if code != 0 => answer.moved = [0; 4],
+            CountsRefused if code == 5 || code == 6 => {
+                let record = Record::read(&bytes[HEADER_LEN + RECORD_LEN * index as usize..]);
+                let b = record.block(Header::read(&bytes).pic);
+                let reports = [0, 1].map(|k| Archive.mv_clip(&b, record.mv[k]).2);
+                trace::count(&mut answer.moved, reports);
+            }
+            CountsList0 => {
+                let calls = &Faulty(SkipsList1);
+                let one_by_one = trace::replay_by(&mut Own(calls), given, &mut old.clone());
+                answer.moved = one_by_one.moved;
+            }
+            ExchangesCounts => answer.moved.rotate_left(2),
             _ => (),
         }
         answer
@@ -502,6 +591,50 @@ fn of_demand_3() {
     let small = ["pic: [4, 4]", "used: [true, true]"];
     assert_noticed::<Demand3>(AveragesDown, DIFFERS, &small);
     assert_noticed::<Demand3>(LeansLeft, DIFFERS, &["used: [false, true]"]);
+}
+
+/// W2, of clipping and of a block.
+#[test]
+fn of_reports() {
+    let block = "b: Block { pic: [4, 4], place: [0, 0], side: [4, 4] }";
+    let past = [block, "257"];
+    assert_noticed::<Clipping>(ReportsDirection, DIFFERS, &past);
+    assert_noticed::<Clipping>(SkipsHigh, DIFFERS, &past);
+    assert_noticed::<Clipping>(AcrossForDown, DIFFERS, &past);
+    // at a limit no number gets smaller by itself
+    assert_noticed::<Clipping>(ReportsAtLimit, DIFFERS, &["side: [4, 4]"]);
+    let small = ["side: [0, 0]", "mv: [0, 0]"];
+    assert_noticed::<Clipping>(ReportsRefused, DIFFERS, &small);
+
+    assert_noticed::<Blocks>(ReportsDirection, DIFFERS, &past);
+    assert_noticed::<Blocks>(SkipsHigh, DIFFERS, &past);
+    assert_noticed::<Blocks>(AcrossForDown, DIFFERS, &past);
+    assert_noticed::<Blocks>(ReportsAtLimit, DIFFERS, &["side: [4, 4]"]);
+    assert_noticed::<Blocks>(ReportsRefused, DIFFERS, &past);
+    assert_noticed::<Blocks>(ReportsUnused, DIFFERS, &past);
+    assert_noticed::<Blocks>(SkipsList1, DIFFERS, &[block, "used: [false, true]"]);
+    let small = [
+        block,
+        "used: [true, true], mv: [[256, 256], [256, 257]], poc: [2, 2]",
+    ];
+    assert_noticed::<Blocks>(SkipsEqual, DIFFERS, &small);
+
+    // the mirror and the exchange see it too, and W6 where nothing is said of a vector that shows
+    assert_noticed::<Demand3>(SkipsHigh, DIFFERS, &past);
+    assert_noticed::<Demand3>(SkipsList1, DIFFERS, &[block, "used: [false, true]"]);
+    let small = ["place: [0, 0], side: [64, 4]", "mv: [[257, 0], [0, 0]]"];
+    assert_noticed::<Invisible>(SkipsHigh, DIFFERS, &small);
+}
+
+/// W2, of replay alone.
+#[test]
+fn of_counts() {
+    let small = ["kind: 0, mv: [[0, 257], [0, 0]]", "damage: [More { len: 1"];
+    assert_noticed::<Replays>(ForgetsCounts, DIFFERS, &small);
+    assert_noticed::<Replays>(CountsRefused, DIFFERS, &["257", "damage: []"]);
+    let one = "records: [Record { place: [0, 0], side: [4, 4], kind: 1";
+    assert_noticed::<Replays>(CountsList0, DIFFERS, &[one, "257", "damage: []"]);
+    assert_noticed::<Replays>(ExchangesCounts, DIFFERS, &[one, "257", "damage: []"]);
 }
 
 #[test]

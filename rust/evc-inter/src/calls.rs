@@ -4,8 +4,8 @@
 //! crates/evc_inter say that a call reads and writes nothing but what is lent, and keeps none of it.
 
 use crate::ffi;
-use crate::{CameraMotion, EvcBlock, EvcCandidates, EvcList, EvcMv, EvcTraceRecord};
-use crate::{Refusal, Replay};
+use crate::{CameraMotion, Clipped, EvcBlock, EvcCandidates, EvcList, EvcMv, EvcTraceRecord};
+use crate::{Predicted, Refusal, Replay};
 
 /// The border step: fills the border of one plane in place. Refuses 1, 4, 6.
 ///
@@ -137,19 +137,23 @@ pub fn evc_get_mv_dir(
     Refusal::check(r.code).map(|()| [r.mv0, r.mv1])
 }
 
-/// The vector, clipped so that the block lies within 64 samples of the picture. Refuses 1, 2.
+/// The vector, clipped so that the block lies within 64 samples of the picture, and which of its
+/// components were moved for that. Refuses 1, 2.
 ///
 /// ```
-/// use evc_inter::{evc_mv_clip, EvcBlock, EvcMv, Refusal};
+/// use evc_inter::{evc_mv_clip, EvcBlock, EvcMv, Moved, Refusal};
 ///
 /// let block = EvcBlock { pic_w: 64, pic_h: 64, x: 0, y: 0, w: 16, h: 16 };
-/// assert_eq!(evc_mv_clip(block, EvcMv { x: -300, y: 5 }), Ok(EvcMv { x: -256, y: 5 }));
+/// let clipped = evc_mv_clip(block, EvcMv { x: -300, y: 5 })?;
+/// assert_eq!(clipped.mv, EvcMv { x: -256, y: 5 });
+/// assert_eq!((clipped.moved.x, clipped.moved.y), (Moved::Low, Moved::Not));
 /// let block = EvcBlock { x: 2, ..block };
 /// assert_eq!(evc_mv_clip(block, EvcMv { x: 0, y: 0 }), Err(Refusal::Block));
+/// # Ok::<(), Refusal>(())
 /// ```
-pub fn evc_mv_clip(block: EvcBlock, mv: EvcMv) -> Result<EvcMv, Refusal> {
+pub fn evc_mv_clip(block: EvcBlock, mv: EvcMv) -> Result<Clipped, Refusal> {
     let r = unsafe { ffi::evc_mv_clip(block, mv) };
-    Refusal::check(r.code).map(|()| r.mv)
+    Refusal::check(r.code).map(|()| Clipped::new(r))
 }
 
 /// The prediction of a block of one plane, rows as wide as the block. Refuses 1, 2, 4, 6.
@@ -200,7 +204,8 @@ pub fn evc_mc_plane(
     })
 }
 
-/// The prediction of a block from one list or both, into the first block lent. Refuses 1 to 6.
+/// The prediction of a block from one list or both, into the first block lent, and which components of
+/// the vectors were moved by clipping. Refuses 1 to 6.
 ///
 /// `planes0` and `planes1` are Y, U, V of each list's picture; those of a list not in use may be
 /// empty. Both blocks need [`CU_LEN`](crate::CU_LEN) samples; [`cu_plane`](crate::cu_plane) reads
@@ -220,9 +225,10 @@ pub fn evc_mc_plane(
 /// let list1 = EvcList { used: true, mv: EvcMv { x: 5, y: -2 }, poc: 8 };
 /// let (mut pred0, mut pred1) = ([0; CU_LEN], [0; CU_LEN]);
 /// let [planes0, planes1] = pictures.each_ref().map(Picture::samples);
-/// evc_mc2(block, list0, planes0, list1, planes1, &mut pred0, &mut pred1)?;
+/// let predicted = evc_mc2(block, list0, planes0, list1, planes1, &mut pred0, &mut pred1)?;
 /// assert_eq!(cu_plane(&pred0, 0, block.w, block.h), [351; 64]); // (300 + 401 + 1) >> 1
 /// assert_eq!(cu_plane(&pred1, 2, block.w, block.h), [401; 16]);
+/// assert!(!predicted.moved[0].is_moved() && !predicted.moved[1].is_moved()); // near the picture
 ///
 /// let none = EvcList::default();
 /// let refused = evc_mc2(block, none, [&[]; 3], none, [&[]; 3], &mut pred0, &mut pred1);
@@ -237,9 +243,9 @@ pub fn evc_mc2(
     planes1: [&[u16]; 3],
     pred0: &mut [u16],
     pred1: &mut [u16],
-) -> Result<(), Refusal> {
+) -> Result<Predicted, Refusal> {
     let ([y0, u0, v0], [y1, u1, v1]) = (planes0, planes1);
-    Refusal::check(unsafe {
+    let r = unsafe {
         ffi::evc_mc2(
             block,
             list0,
@@ -261,7 +267,8 @@ pub fn evc_mc2(
             pred1.as_mut_ptr(),
             pred1.len(),
         )
-    })
+    };
+    Refusal::check(r.code).map(|()| Predicted::new(r))
 }
 
 /// The header of a trace, into the first 13 bytes lent. Refuses 1, 4.
@@ -319,8 +326,8 @@ pub fn evc_trace_write_record(
     })
 }
 
-/// A trace's records one after another, their blocks into the target's picture. Refuses 11, 10, 1, 4,
-/// and for each record 11, 12, 2, 5, 6.
+/// A trace's records one after another, their blocks into the target's picture; what clipping has moved
+/// of their vectors is counted. Refuses 11, 10, 1, 4, and for each record 11, 12, 2, 5, 6.
 ///
 /// `planes0` and `planes1` are Y, U, V of the references, padded, of the header's size, and needed
 /// whole, also if no record uses one; so is the target, whose borders stay. `col_mv` is the motion
@@ -343,6 +350,7 @@ pub fn evc_trace_write_record(
 /// let replay = evc_trace_replay(&trace, planes, planes, None, target.samples_mut());
 /// assert_eq!((replay.finished, replay.refusal), (1, None));
 /// assert_eq!(target.planes[0].row(0)[6..10], [0, 0, 300, 300]);
+/// assert!(!replay.moved.any()); // no vector was clipped
 ///
 /// let cut = &trace[..20]; // inside the record
 /// let replay = evc_trace_replay(cut, planes, planes, None, target.samples_mut());

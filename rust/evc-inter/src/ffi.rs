@@ -9,10 +9,26 @@ pub struct EvcAvail {
     pub avail: u16,
 }
 
+/// Of each component: 0 not moved, 1 low, 2 high.
+#[derive(Clone, Copy)]
+#[repr(C)]
+pub struct EvcMoved {
+    pub x: u8,
+    pub y: u8,
+}
+
 #[repr(C)]
 pub struct EvcClipped {
     pub code: u32,
     pub mv: EvcMv,
+    pub moved: EvcMoved,
+}
+
+#[repr(C)]
+pub struct EvcPredicted {
+    pub code: u32,
+    pub moved0: EvcMoved,
+    pub moved1: EvcMoved,
 }
 
 #[repr(C)]
@@ -26,6 +42,10 @@ pub struct EvcDirect {
 pub struct EvcReplay {
     pub code: u32,
     pub index: u64,
+    pub across_low: u64,
+    pub across_high: u64,
+    pub down_low: u64,
+    pub down_high: u64,
 }
 
 #[repr(C)]
@@ -104,7 +124,7 @@ extern "C" {
         pred0_len: usize,
         pred1: *mut u16,
         pred1_len: usize,
-    ) -> u32;
+    ) -> EvcPredicted;
 
     pub fn evc_trace_write_header(
         pic_w: u32,

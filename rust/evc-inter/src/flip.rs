@@ -1,7 +1,8 @@
 //! A reel that was scanned with the wrong side to the lens, or upside down: its pictures, places and
 //! vectors. docs/INTEGRATION.md, 'A flipped copy', says what comes out.
 
-use crate::{EvcBlock, EvcList, EvcMv, Picture, Refusal, TraceHeader, TraceRecord};
+use crate::{EvcBlock, EvcList, EvcMv, Moved, MovedCounts, MovedMv, Picture, Refusal};
+use crate::{TraceHeader, TraceRecord};
 use std::fmt;
 
 /// Which sides are exchanged.
@@ -103,6 +104,56 @@ impl EvcBlock {
             },
             Flip::TopBottom => EvcBlock {
                 y: place(self.pic_h, self.y, self.h),
+                ..self
+            },
+        }
+    }
+}
+
+impl MovedMv {
+    /// What is moved of the flipped block's vector: low and high change places in that component.
+    ///
+    /// ```
+    /// use evc_inter::{Flip, Moved, MovedMv};
+    ///
+    /// let moved = MovedMv { x: Moved::Low, y: Moved::High };
+    /// assert_eq!(moved.flipped(Flip::LeftRight), MovedMv { x: Moved::High, ..moved });
+    /// assert_eq!(moved.flipped(Flip::TopBottom), MovedMv { y: Moved::Low, ..moved });
+    /// ```
+    pub fn flipped(self, flip: Flip) -> MovedMv {
+        let MovedMv { x, y } = self;
+        let exchanged = |moved| match moved {
+            Moved::Not => Moved::Not,
+            Moved::Low => Moved::High,
+            Moved::High => Moved::Low,
+        };
+        match flip {
+            Flip::LeftRight => MovedMv { x: exchanged(x), y },
+            Flip::TopBottom => MovedMv { x, y: exchanged(y) },
+        }
+    }
+}
+
+impl MovedCounts {
+    /// The counts of the flipped trace.
+    ///
+    /// ```
+    /// use evc_inter::{Flip, MovedCounts};
+    ///
+    /// let counts = MovedCounts { across_low: 3, down_high: 1, ..Default::default() };
+    /// let flipped = counts.flipped(Flip::LeftRight);
+    /// assert_eq!((flipped.across_low, flipped.across_high, flipped.down_high), (0, 3, 1));
+    /// ```
+    pub fn flipped(self, flip: Flip) -> MovedCounts {
+        match flip {
+            Flip::LeftRight => MovedCounts {
+                across_low: self.across_high,
+                across_high: self.across_low,
+                ..self
+            },
+            Flip::TopBottom => MovedCounts {
+                down_low: self.down_high,
+                down_high: self.down_low,
                 ..self
             },
         }

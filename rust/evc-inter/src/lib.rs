@@ -2,9 +2,9 @@
 //!
 //! A [`Picture`] holds samples; padded, it is a reference, a [`PaddedPicture`]. A [`Predictor`] predicts
 //! blocks from one or two of these. [`TraceWriter`] keeps a trace of what was predicted, [`replay`]
-//! predicts it again, and [`TraceReader`] says what is in it. [`evc_camera_motion`] says whether a
-//! picture is still or moving, for the catalogue. [`Flip`] is for reels that were scanned with the wrong
-//! side to the lens.
+//! predicts it again, and [`TraceReader`] says what is in it. For the catalogue [`Predicted`] and
+//! [`MovedCounts`] tell of motion that runs far out of the frame, and [`evc_camera_motion`] says whether
+//! a picture is still or moving. [`Flip`] is for reels that were scanned with the wrong side to the lens.
 //!
 //! ```
 //! use evc_inter::{EvcBlock, EvcMv, Picture, Predictor, Reference, Refusal};
@@ -60,6 +60,7 @@ mod cu;
 #[doc(hidden)] // for comparison and benchmark, which need the calls as C has them
 pub mod ffi;
 mod flip;
+mod moved;
 mod picture;
 mod plane;
 mod predictor;
@@ -73,6 +74,7 @@ pub use calls::*;
 pub use camera::*;
 pub use cu::*;
 pub use flip::*;
+pub use moved::*;
 pub use picture::*;
 pub use plane::*;
 pub use predictor::*;

@@ -1,7 +1,8 @@
 //! Block prediction from padded pictures.
 
 use crate::cu::on_plane;
-use crate::{cu_plane, evc_mc2, EvcBlock, EvcList, EvcMv, PaddedPicture, Picture, Refusal, CU_LEN};
+use crate::{cu_plane, evc_mc2, EvcBlock, EvcList, EvcMv, MovedMv, PaddedPicture, Picture};
+use crate::{Predicted, Refusal, CU_LEN};
 use std::fmt;
 
 /// What a block takes from one list: a picture, a vector and the picture's order count.
@@ -147,9 +148,10 @@ impl Predictor {
             None => Default::default(),
         });
         let [pred0, pred1] = &mut self.lent;
-        evc_mc2(block, list0, planes0, list1, planes1, pred0, pred1)?;
+        let predicted = evc_mc2(block, list0, planes0, list1, planes1, pred0, pred1)?;
         Ok(Prediction {
             block,
+            predicted,
             samples: pred0,
         })
     }
@@ -195,6 +197,7 @@ impl fmt::Debug for Predictor {
 #[derive(Clone, Copy)]
 pub struct Prediction<'a> {
     block: EvcBlock,
+    predicted: Predicted,
     samples: &'a [u16],
 }
 
@@ -202,6 +205,25 @@ impl<'a> Prediction<'a> {
     /// The block that was asked for.
     pub fn block(&self) -> EvcBlock {
         self.block
+    }
+
+    /// Which components of the vectors of list 0 and list 1 clipping has moved, as
+    /// [`Predicted::moved`] has them.
+    ///
+    /// ```
+    /// use evc_inter::{EvcBlock, EvcMv, Moved, MovedMv, Picture, Predictor, Reference, Refusal};
+    ///
+    /// let picture = Picture::new(16, 8)?.pad()?;
+    /// let block = EvcBlock { pic_w: 16, pic_h: 8, x: 8, y: 0, w: 8, h: 8 };
+    /// let far = Reference { picture: &picture, mv: EvcMv { x: 300, y: 5 }, poc: 0 };
+    /// let mut predictor = Predictor::new();
+    /// let [list0, list1] = predictor.predict(block, [Some(far), None])?.moved();
+    /// assert_eq!(list0, MovedMv { x: Moved::High, y: Moved::Not });
+    /// assert!(!list1.is_moved()); // it is not in use
+    /// # Ok::<(), Refusal>(())
+    /// ```
+    pub fn moved(&self) -> [MovedMv; 2] {
+        self.predicted.moved
     }
 
     /// The first block lent, whole, for [`cu_plane`]; what lies outside the predicted planes means
@@ -262,6 +284,7 @@ impl fmt::Debug for Prediction<'_> {
     fn fmt(&self, f: &mut fmt::Formatter<'_>) -> fmt::Result {
         f.debug_struct("Prediction")
             .field("block", &self.block)
+            .field("moved", &self.moved())
             .finish_non_exhaustive()
     }
 }

@@ -2,7 +2,7 @@
 
 use crate::ffi;
 use crate::{evc_get_mv_dir, evc_trace_replay, evc_trace_write_header, evc_trace_write_record};
-use crate::{EvcBlock, EvcList, EvcMv, EvcTraceRecord};
+use crate::{EvcBlock, EvcList, EvcMv, EvcTraceRecord, MovedCounts};
 use crate::{PaddedPicture, Picture, Refusal, TraceHeader, TraceReader};
 use std::error::Error;
 use std::{fmt, io};
@@ -472,6 +472,25 @@ impl<W> TraceWriter<W> {
 /// assert_eq!(replayed.to_string(), "0 records finished");
 /// # Ok::<(), std::io::Error>(())
 /// ```
+///
+/// Where clipping has moved a vector, the line says so too:
+///
+/// ```
+/// use evc_inter::{replay, EvcBlock, EvcList, EvcMv, Picture, TraceRecord, TraceWriter};
+///
+/// let reference = Picture::new(16, 8)?.pad()?;
+/// let mut target = Picture::new(16, 8)?;
+/// let mut trace = TraceWriter::new(Vec::new(), 16, 8, 4, 0)?;
+/// let block = EvcBlock { pic_w: 16, pic_h: 8, x: 8, y: 0, w: 8, h: 8 };
+/// let list0 = EvcList { used: true, mv: EvcMv { x: -300, y: 300 }, poc: 0 };
+/// trace.record(TraceRecord::from_lists(block, list0, EvcList::default())?)?;
+/// let replayed = replay(trace.get_ref(), [&reference; 2], None, &mut target);
+/// assert_eq!((replayed.moved.across_low, replayed.moved.down_high), (1, 1));
+/// let line = "1 record finished; 2 components of vectors were clipped: \
+///             across 1 low, 0 high, down 0 low, 1 high";
+/// assert_eq!(replayed.to_string(), line);
+/// # Ok::<(), std::io::Error>(())
+/// ```
 #[must_use]
 #[non_exhaustive]
 #[derive(Clone, Copy, Debug, PartialEq, Eq)]
@@ -480,6 +499,9 @@ pub struct Replay {
     pub finished: u64,
     /// Why the next one was refused, or the trace before its first record; none if all went through.
     pub refusal: Option<Refusal>,
+    /// How many components of vectors clipping has moved in the finished records, of both lists; also
+    /// where the next record was refused.
+    pub moved: MovedCounts,
     before_first: bool,
 }
 
@@ -495,6 +517,7 @@ impl Replay {
         Replay {
             finished: returned.index,
             refusal,
+            moved: MovedCounts::new(&returned),
             before_first,
         }
     }
@@ -531,6 +554,15 @@ impl fmt::Display for Replay {
         match self.finished {
             1 => write!(f, "1 record finished")?,
             n => write!(f, "{n} records finished")?,
+        }
+        match self.moved.total() {
+            0 => {}
+            1 => write!(f, "; 1 component of a vector was clipped: {}", self.moved)?,
+            n => write!(
+                f,
+                "; {n} components of vectors were clipped: {}",
+                self.moved
+            )?,
         }
         match self.result() {
             Ok(_) => Ok(()),

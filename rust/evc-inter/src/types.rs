@@ -159,7 +159,9 @@ pub struct EvcTraceRecord {
 #[cfg(test)]
 mod layout {
     use super::*;
-    use crate::ffi::{EvcAvail, EvcCamera, EvcClipped, EvcDirect, EvcReplay};
+    use crate::ffi::{
+        EvcAvail, EvcCamera, EvcClipped, EvcDirect, EvcMoved, EvcPredicted, EvcReplay,
+    };
     use std::mem::{align_of, offset_of, size_of};
 
     macro_rules! layout {
@@ -176,13 +178,18 @@ mod layout {
     layout!(block, EvcBlock, 24, 4, pic_w 0, pic_h 4, x 8, y 12, w 16, h 20);
     layout!(list, EvcList, 12, 4, used 0, mv 2, poc 8);
     layout!(avail, EvcAvail, 8, 4, code 0, avail 4);
-    layout!(clipped, EvcClipped, 8, 4, code 0, mv 4);
+    layout!(moved, EvcMoved, 2, 1, x 0, y 1);
+    layout!(clipped, EvcClipped, 12, 4, code 0, mv 4, moved 8);
+    layout!(predicted, EvcPredicted, 8, 4, code 0, moved0 4, moved1 6);
     layout!(direct, EvcDirect, 12, 4, code 0, mv0 4, mv1 8);
     layout!(candidates, EvcCandidates, 20, 2, left 0, up 4, up_right 8, collocated 12, refi 16);
     layout!(
         trace_record, EvcTraceRecord, 22, 2,
         x 0, y 2, w 4, h 6, kind 8, mv0 10, mv1 14, poc0 18, poc1 20
     );
-    layout!(replay, EvcReplay, 16, 8, code 0, index 8);
+    layout!(
+        replay, EvcReplay, 48, 8,
+        code 0, index 8, across_low 16, across_high 24, down_low 32, down_high 40
+    );
     layout!(camera, EvcCamera, 24, 8, code 0, kind 4, x 8, y 16);
 }

@@ -103,6 +103,8 @@ fn predictions() {
                 let want = straight_predictor.predict(block, lists).unwrap();
                 let lists = references(&flipped, used, mv.map(|mv| mv.flipped(flip)));
                 let turned = predictor.predict(block.flipped(flip), lists).unwrap();
+                let moved = want.moved().map(|moved| moved.flipped(flip));
+                assert_eq!(turned.moved(), moved, "{flip}: {block:?} {mv:?}");
                 for c in 0..3 {
                     let rows = mirrored(turned.rows(c), flip);
                     assert!(want.rows(c).eq(rows), "{flip}, plane {c}: {block:?} {mv:?}");

@@ -1,6 +1,6 @@
 //! A C caller reads what a Rust caller reads.
 
-use evc_inter::Refusal;
+use evc_inter::{Moved, Refusal};
 
 /// The header, with literals that stand beside each other as one, which they are in C.
 fn header() -> String {
@@ -35,5 +35,14 @@ fn messages() {
         let text = refusal.to_string();
         let (_, message) = text.split_once("): ").unwrap();
         assert!(header.contains(&format!("\"{message}\"")), "{message}");
+    }
+}
+
+/// Each report is a text of `evc_moved_text`.
+#[test]
+fn reports() {
+    let header = header();
+    for moved in [Moved::Not, Moved::Low, Moved::High] {
+        assert!(header.contains(&format!("return \"{moved}\";")), "{moved}");
     }
 }

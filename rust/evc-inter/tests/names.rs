@@ -52,6 +52,9 @@ fn values() {
         ("EVC_CU_U", CU_OFFSET[1] as u64),
         ("EVC_CU_V", CU_OFFSET[2] as u64),
         ("EVC_CU_LEN", CU_LEN as u64),
+        ("EVC_NOT_MOVED", Moved::Not as u64),
+        ("EVC_MOVED_LOW", Moved::Low as u64),
+        ("EVC_MOVED_HIGH", Moved::High as u64),
         ("EVC_TRACE_HEADER_LEN", TRACE_HEADER_LEN as u64),
         ("EVC_TRACE_RECORD_LEN", TRACE_RECORD_LEN as u64),
     ] {

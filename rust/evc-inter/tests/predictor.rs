@@ -55,6 +55,7 @@ fn list(reference: Option<Reference>) -> EvcList {
 fn as_the_call() {
     let pictures = [1, 2].map(|seed| Lcg(seed).picture(32, 16));
     let (lcg, mut predictor) = (&mut Lcg(3), Predictor::new());
+    let mut moved = MovedCounts::default();
     for n in 0..200 {
         let [w, h] = [0, 1].map(|_| 4 << lcg.below(3));
         let [x, y] = [32 - w, 16 - h].map(|room| 4 * lcg.below(room / 4 + 1));
@@ -68,8 +69,8 @@ fn as_the_call() {
         let references = [0, 1].map(|k: usize| Reference {
             picture: &pictures[k],
             mv: EvcMv {
-                x: lcg.below(401) as i16 - 200,
-                y: lcg.below(401) as i16 - 200,
+                x: lcg.below(801) as i16 - 400,
+                y: lcg.below(801) as i16 - 400,
             },
             poc: 8 * k as u32,
         });
@@ -80,13 +81,15 @@ fn as_the_call() {
         assert_eq!(lists.map(EvcList::from), [list0, list1]);
         let given = EvcList::from(references[0]);
         assert_eq!(given, list(Some(references[0])));
-        evc_mc2(
+        let predicted = evc_mc2(
             block, list0, planes0, list1, planes1, &mut pred0, &mut pred1,
         )
         .unwrap();
 
         let prediction = predictor.predict(block, lists).unwrap();
         assert_eq!(prediction.block(), block);
+        assert_eq!(prediction.moved(), predicted.moved);
+        moved.add(&predicted);
         let mut target = Lcg(4).picture(32, 16).into_picture();
         let before = target.clone();
         prediction.put(&mut target);
@@ -109,6 +112,7 @@ fn as_the_call() {
             assert!(target.planes[c].samples() == want_put.samples());
         }
     }
+    assert!(moved.total() > 50, "{moved}");
 }
 
 /// With equal counts and vectors list 0 alone stands, so the lists are lent in their order.
@@ -236,7 +240,8 @@ fn shown_without_samples() {
     let reference = Reference { picture, mv, poc };
     let mut predictor = Predictor::new();
     let prediction = predictor.predict(BLOCK, [Some(reference), None]);
-    let shown = format!("Prediction {{ block: {BLOCK:?}, .. }}");
+    let moved = [MovedMv::default(); 2];
+    let shown = format!("Prediction {{ block: {BLOCK:?}, moved: {moved:?}, .. }}");
     assert_eq!(format!("{:?}", prediction.unwrap()), shown);
     let shown = format!("Reference {{ picture: {picture:?}, mv: {mv:?}, poc: 0 }}");
     assert_eq!(format!("{reference:?}"), shown);

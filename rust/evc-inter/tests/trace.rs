@@ -40,13 +40,13 @@ fn grey() -> Picture {
     picture
 }
 
-/// A trace with a record of each kind in turn, and the pictures before and after each of them, made by the calls
-/// one by one.
-fn kept(records: usize) -> (Vec<u8>, Vec<Picture>) {
+/// A trace with a record of each kind in turn; the pictures before and after each of them, made by the calls one by
+/// one, and what was moved up to there.
+fn kept(records: usize) -> (Vec<u8>, Vec<(Picture, MovedCounts)>) {
     let (references, col_mv, lcg) = (references(), col_mv(), &mut Lcg(3));
     let (pic_w, pic_h) = SIDES;
     let mut trace = TraceWriter::new(Vec::new(), pic_w, pic_h, CURRENT, POC[0]).unwrap();
-    let mut pictures = vec![grey()];
+    let mut pictures = vec![(grey(), MovedCounts::default())];
     let mut predictor = Predictor::new();
     for n in 0..records {
         let [w, h] = [0, 1].map(|_| 4 << lcg.below(4));
@@ -79,9 +79,11 @@ fn kept(records: usize) -> (Vec<u8>, Vec<Picture>) {
             let (mv, poc) = (mv[k], POC[k]);
             (kind != 1 - k).then_some(Reference { picture, mv, poc })
         });
-        let mut picture = pictures[n].clone();
-        predictor.predict(block, lists).unwrap().put(&mut picture);
-        pictures.push(picture);
+        let (mut picture, mut moved) = pictures[n].clone();
+        let prediction = predictor.predict(block, lists).unwrap();
+        prediction.put(&mut picture);
+        moved += prediction.moved().into();
+        pictures.push((picture, moved));
     }
     assert_eq!(trace.records(), records as u64);
     (trace.into_inner(), pictures)
@@ -192,25 +194,28 @@ fn record_bytes() {
 #[test]
 fn one_after_another() {
     let (trace, pictures) = kept(40);
-    for (n, want) in pictures.iter().enumerate() {
+    for (n, (want, moved)) in pictures.iter().enumerate() {
         let (replay, target) = replayed(&trace[..record_at(n)]);
-        assert_eq!(replay.result(), Ok(n as u64));
+        assert_eq!((replay.result(), replay.moved), (Ok(n as u64), *moved));
         assert!(target.samples() == want.samples(), "after {n} records");
     }
-    assert_eq!(replayed(&trace).0.to_string(), "40 records finished");
+    let moved = pictures[40].1;
+    let said = "40 records finished; 16 components of vectors were clipped";
+    assert_eq!(replayed(&trace).0.to_string(), format!("{said}: {moved}"));
 }
 
 /// "the index is returned (the record count on 0) and the target keeps the blocks before it"
 #[test]
 fn refused_inside() {
     let (trace, pictures) = kept(9);
-    for (n, want) in pictures[..9].iter().enumerate() {
+    for (n, (want, moved)) in pictures[..9].iter().enumerate() {
         let mut damaged = trace.clone();
         damaged[record_at(n) + 8] = 4;
         let cut = &trace[..record_at(n) + 1 + n % 21];
         for (bytes, refusal) in [(&damaged[..], Refusal::Record), (cut, Refusal::Incomplete)] {
             let (replay, target) = replayed(bytes);
             assert_eq!((replay.finished, replay.refusal), (n as u64, Some(refusal)));
+            assert_eq!(replay.moved, *moved);
             assert_eq!(replay.result().unwrap_err().record, Some(n as u64));
             assert!(
                 target.samples() == want.samples(),
@@ -243,7 +248,7 @@ fn refused_before() {
         let (replay, target) = replayed(&bytes);
         let error = replay.result().unwrap_err();
         assert_eq!((error.record, error.refusal), (None, refusal));
-        assert_eq!(replay.finished, 0);
+        assert_eq!((replay.finished, replay.moved.any()), (0, false));
         let said = "0 records finished; before the first record: refused";
         assert!(replay.to_string().starts_with(said), "{replay}");
         assert!(target.samples() == grey().samples());

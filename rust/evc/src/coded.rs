@@ -1,8 +1,9 @@
 //! A picture as a list of blocks, each with what it is predicted from.
 
 use crate::call::{Call, List};
+use crate::moved::{self, Report};
 use crate::report::{Console, Failure, Result};
-use evc_inter::{evc_get_mv_dir, evc_mv_clip, EvcBlock, EvcList, EvcMv, Flip, PaddedPicture};
+use evc_inter::{evc_get_mv_dir, EvcBlock, EvcList, EvcMv, Flip, MovedCounts, PaddedPicture};
 use evc_inter::{Picture, Predictor, Refusal, TraceRecord, TraceWriter, MOTION_LEN, SCU_CODED};
 use std::collections::BTreeMap;
 use std::fmt;
@@ -140,19 +141,29 @@ pub fn target((w, h): (u32, u32)) -> Result<Picture> {
     Ok(picture)
 }
 
-/// The picture that the blocks give, from these references.
+/// What blocks give, one after another.
+pub struct Answers {
+    pub picture: Picture,
+    /// What each prediction reports.
+    pub reports: Vec<Report>,
+}
+
+/// The blocks, predicted from these references.
 pub fn predicted(
     pictures: &[PaddedPicture; 2],
     poc: [u32; 2],
     blocks: &[Coded],
-) -> Result<Picture> {
+) -> Result<Answers> {
     let mut picture = target(pictures[0].sides())?;
+    let mut reports = Vec::new();
     let mut predictor = Predictor::new();
     for coded in blocks {
         let prediction = coded.call(poc).predict(pictures, &mut predictor);
-        prediction.map_err(Failure::at(coded))?.put(&mut picture);
+        let prediction = prediction.map_err(Failure::at(coded))?;
+        prediction.put(&mut picture);
+        reports.push(prediction.moved());
     }
-    Ok(picture)
+    Ok(Answers { picture, reports })
 }
 
 /// What was asked for, as a trace.
@@ -194,12 +205,20 @@ pub struct Tally {
     kinds: [u64; 4],
     /// Vectors that copy, filter down, across, both ways.
     paths: [u64; 4],
+    /// Vectors that are moved, across, down or both ways.
     pub clipped: u64,
+    pub moved: MovedCounts,
 }
 
 impl Tally {
-    pub fn of(blocks: &[Coded]) -> Result<Tally> {
-        let mut tally = Tally::default();
+    /// Of blocks, and what their predictions report.
+    pub fn of(blocks: &[Coded], reports: &[Report]) -> Tally {
+        let vectors = reports.iter().flatten();
+        let mut tally = Tally {
+            clipped: vectors.filter(|moved| moved.is_moved()).count() as u64,
+            moved: moved::counts(reports),
+            ..Tally::default()
+        };
         for coded in blocks {
             *tally
                 .sizes
@@ -209,11 +228,9 @@ impl Tally {
             for mv in coded.vectors() {
                 let [across, down] = [mv.x, mv.y].map(|n| usize::from(n & 3 != 0));
                 tally.paths[2 * across + down] += 1;
-                let clipped = evc_mv_clip(coded.block, mv).map_err(Failure::at(coded))?;
-                tally.clipped += u64::from(clipped != mv);
             }
         }
-        Ok(tally)
+        tally
     }
 
     pub fn blocks(&self) -> u64 {
@@ -292,8 +309,15 @@ mod tests {
     #[test]
     fn counted() {
         let blocks = [Kind::List0, Kind::List1, Kind::Direct].map(|kind| coded(8, kind));
-        let tally = Tally::of(&blocks).unwrap();
+        let pictures = [(); 2].map(|()| Picture::new(16, 8).unwrap().pad().unwrap());
+        let answers = predicted(&pictures, [0, 8], &blocks).unwrap();
+        let tally = Tally::of(&blocks, &answers.reports);
         assert_eq!((tally.blocks(), tally.clipped), (3, 2));
+        let moved = MovedCounts {
+            down_low: 2,
+            ..MovedCounts::default()
+        };
+        assert_eq!(tally.moved, moved);
         assert_eq!(tally.said_sizes(), "3 of 8x8");
         assert_eq!(tally.said_kinds(), "1 list 0, 1 list 1, 0 both, 1 direct");
         assert_eq!(

@@ -49,8 +49,13 @@ pub const COMMANDS: [Command; 7] = [
                predicts one frame of each from its two neighbours (at an end of the clip, from the two nearest), \
                by a plain motion search: whole samples, then halves and quarters, measured on what the proved \
                call predicts. Every predicted block is checked against the general filter, its mirror images, \
-               the exchanged lists and its quarters; the picture is predicted again from flipped references, and \
-               its trace is replayed. Clips have 10-bit 4:2:0 samples (C420p10); - is standard input. The folder \
+               the exchanged lists and its quarters, and what is reported of its vectors against where they lead; \
+               the picture is predicted again from flipped references, and its trace is replayed. A vector may lead \
+               a block up to 64 samples out of the picture. One that leads farther is clipped to that, and the note \
+               says that motion runs out of frame: how many vectors of both lists lead past the left edge \
+               (across_low in JSON), the right (across_high), the top (down_low) and the bottom (down_high). In JSON \
+               clipped is how many vectors are; one that leads past the left edge and the top counts once there, \
+               and at both edges. Clips have 10-bit 4:2:0 samples (C420p10); - is standard input. The folder \
                of an item, CLIP-frameN, gets predicted, true and difference pictures (.y4m, .png; difference.y4m \
                is 512 where both are equal), blocks.png with the blocks' edges (yellow list 0, blue list 1, white \
                both, pink direct), side-by-side.png (straight, and flipped and turned back), and the raw maps that \
@@ -75,8 +80,11 @@ pub const COMMANDS: [Command; 7] = [
         takes: "TRACE .. --ref0 A.y4m --ref1 B.y4m",
         what: "replays a trace into a picture",
         text: "Predicts a trace's records once more, one after another, from two references. A note says how many \
-               were finished, which one was refused, and why. The picture has the blocks before it, grey or the \
-               target's samples elsewhere: replayed.y4m, replayed.png.",
+               were finished, which one was refused, and why. Where the motion of the finished ones runs out of \
+               frame, by more than 64 samples, it also says how many vectors of both lists lead past the left edge \
+               (across_low in JSON), the right (across_high), the top (down_low) and the bottom (down_high). The \
+               picture has the blocks before the refused one, grey or the target's samples elsewhere: replayed.y4m, \
+               replayed.png.",
         options: &[
             opt("--ref0", Value::Wanted("A.y4m"), "the reference of list 0"),
             opt("--ref1", Value::Wanted("B.y4m"), "the reference of list 1"),
@@ -195,7 +203,7 @@ const EXITS: [(&str, &str); 5] = [
 
 pub fn version() -> String {
     let version = env!("CARGO_PKG_VERSION");
-    format!("evc {version}, with the proved calls of documents 01 and 02 (W1, W3, W4, W6)\n")
+    format!("evc {version}, with the proved calls of documents 01 and 02 (W1 to W4, W6)\n")
 }
 
 /// Words on lines of at most 100 columns, each behind some blanks.

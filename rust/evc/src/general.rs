@@ -1,8 +1,9 @@
 //! Demand 3's general filter, one sample at a time as document 01 writes it out.
 
 use crate::call::Call;
+use crate::moved::Report;
 use crate::y4m::PLANES;
-use evc_inter::{cu_plane, EvcBlock, EvcMv, PaddedPicture, Plane};
+use evc_inter::{cu_plane, EvcBlock, EvcMv, Moved, MovedMv, PaddedPicture, Plane};
 
 const TBL_MC_L_COEFF: [[i32; 6]; 4] = [
     [0, 0, 64, 0, 0, 0],
@@ -29,12 +30,17 @@ pub enum Place {
     Exact,
 }
 
+/// Where a vector leads, and the limits that clipping holds it to, in quarter samples.
+fn place(at: u32, mv: i16, side: u32, pic: u32) -> (i32, [i32; 2]) {
+    let [at, side, pic] = [at, side, pic].map(|n| n as i32);
+    (4 * at + i32::from(mv), [-256, 4 * (pic + 64 - side)])
+}
+
 /// A place on plane `c`: the taps of its phase, and where they begin.
 fn taps(c: usize, which: Place, at: u32, mv: i16, side: u32, pic: u32) -> (&'static [i32], i32) {
-    let [at, side, pic] = [at, side, pic].map(|n| n as i32);
-    let exact = 4 * at + i32::from(mv);
+    let (exact, [low, high]) = place(at, mv, side, pic);
     let place = match which {
-        Place::Clipped => exact.clamp(-256, 4 * (pic + 64 - side)),
+        Place::Clipped => exact.clamp(low, high),
         Place::Exact => exact,
     };
     match c {
@@ -66,6 +72,23 @@ fn predicted(plane: &Plane, c: usize, b: &EvcBlock, mv: EvcMv, which: Place) -> 
         ((sum + 512) >> 10).clamp(0, 1023) as u16
     };
     (0..w * h).map(second).collect()
+}
+
+/// Document 02, W2: "for each component whether it was moved to the low side, the high side or not at
+/// all"; nothing of a list not in use.
+pub fn report(call: &Call) -> Report {
+    let b = &call.block;
+    let moved = |at, mv, side, pic| match place(at, mv, side, pic) {
+        (exact, [low, _]) if exact < low => Moved::Low,
+        (exact, [_, high]) if exact > high => Moved::High,
+        _ => Moved::Not,
+    };
+    call.lists.map(|list| {
+        list.map_or(MovedMv::default(), |list| MovedMv {
+            x: moved(b.x, list.mv.x, b.w, b.pic_w),
+            y: moved(b.y, list.mv.y, b.h, b.pic_h),
+        })
+    })
 }
 
 /// The first sample of the first block that the general filter does not give there, if there is one.
@@ -101,6 +124,7 @@ pub fn difference(
 #[cfg(test)]
 mod tests {
     use super::*;
+    use crate::call::List;
 
     /// Document 01's edges on luma, taken through both stages.
     #[test]
@@ -125,6 +149,42 @@ mod tests {
             };
             let mv = EvcMv { x: 8 + phase, y: 0 };
             assert_eq!(predicted(&plane, 0, &block, mv, Place::Clipped)[0], want);
+        }
+    }
+
+    /// W2's sides: at a limit and a quarter sample past it, across by list 0 and down by list 1.
+    #[test]
+    fn reports() {
+        let block = EvcBlock {
+            pic_w: 64,
+            pic_h: 32,
+            x: 16,
+            y: 8,
+            w: 8,
+            h: 4,
+        };
+        let still = MovedMv::default();
+        let across = |x| MovedMv { x, ..still };
+        let down = |y| MovedMv { y, ..still };
+        for (x, y, want) in [
+            (-320, -288, [still; 2]),
+            (-321, 336, [across(Moved::Low), still]),
+            (416, -289, [still, down(Moved::Low)]),
+            (417, 337, [across(Moved::High), down(Moved::High)]),
+            (-32768, 32767, [across(Moved::Low), down(Moved::High)]),
+        ] {
+            let list = |mv| {
+                let (from, poc) = (0, 0);
+                Some(List { from, mv, poc })
+            };
+            let lists = [list(EvcMv { x, y: 0 }), list(EvcMv { x: 0, y })];
+            let call = Call { block, lists };
+            assert_eq!(report(&call), want);
+            let alone = Call {
+                lists: [None, lists[1]],
+                ..call
+            };
+            assert_eq!(report(&alone), [still, want[1]]);
         }
     }
 

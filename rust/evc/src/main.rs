@@ -12,6 +12,7 @@ mod general;
 mod json;
 mod laws;
 mod material;
+mod moved;
 mod output;
 mod png;
 mod predict;

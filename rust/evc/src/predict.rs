@@ -1,11 +1,12 @@
 //! `evc predict`: pictures from two others each, and whether they are what the laws say.
 
 use crate::args::Given;
-use crate::coded::Tally;
+use crate::coded::{self, Tally};
 use crate::folder::{folders, Folder};
 use crate::json::Json;
 use crate::laws;
 use crate::material::{frames, scene, Material};
+use crate::moved;
 use crate::output::Files;
 use crate::predicted::Predicted;
 use crate::random;
@@ -28,6 +29,31 @@ struct Asked {
     trace: Option<PathBuf>,
 }
 
+/// Whether all predictions are what they should be; with the scene many that are not shown are tried.
+fn hold(console: &mut Console, predicted: &Predicted, is_scene: bool) -> Result<bool> {
+    let references = &predicted.material.references;
+    let mut calls = predicted.calls();
+    let mut random = Vec::new();
+    if is_scene {
+        random = random::calls(references)?;
+        console.say(format!("not shown: {}", random::said(&random)?));
+        calls.extend(&random);
+    }
+    let mut all = laws::hold_to_laws(console, references, &calls)?;
+    all &= predicted.hold_to_flip(console);
+    let (trace, answers) = (&predicted.trace, &predicted.straight);
+    all &= laws::hold_to_replay(console, "trace", references, trace, answers)?;
+    if is_scene {
+        // The scene's own vectors are never clipped, so its trace counts nothing.
+        let blocks = random::coded(&random);
+        let trace = coded::trace(references, &blocks)?;
+        let answers = coded::predicted(&references.pictures, references.poc, &blocks)?;
+        let name = "not shown, as a trace";
+        all &= laws::hold_to_replay(console, name, references, &trace, &answers)?;
+    }
+    Ok(all)
+}
+
 /// Predicts an item, holds it to the laws, and writes it.
 fn item(
     console: &mut Console,
@@ -40,7 +66,7 @@ fn item(
     let predicted = Predicted::new(material, asked.flip.unwrap_or(Flip::LeftRight))?;
     let references = &predicted.material.references;
     let named = &predicted.material.named;
-    let tally = Tally::of(&predicted.blocks)?;
+    let tally = Tally::of(&predicted.blocks, &predicted.straight.reports);
     let psnr = predicted.psnr();
     let [y, u, v] = psnr.map(|psnr| psnr.map_or("equal".into(), |psnr| format!("{psnr:.2} dB")));
     let psnr_said = format!("PSNR Y {y}, U {u}, V {v}");
@@ -48,17 +74,9 @@ fn item(
     console.say(format!("{w} by {h}, {named}: {psnr_said}"));
     tally.said(console);
     console.say(format!("camera: {}", predicted.said_camera()?));
+    console.say(moved::said(tally.moved));
 
-    let mut calls = predicted.calls();
-    if is_scene {
-        let random = random::calls(references)?;
-        console.say(format!("not shown: {}", random::said(&random)?));
-        calls.extend(random);
-    }
-    let mut all = laws::hold_to_laws(console, references, &calls)?;
-    all &= predicted.hold_to_flip(console);
-    all &= predicted.hold_to_replay(console)?;
-
+    let all = hold(console, &predicted, is_scene)?;
     predicted.write(folder)?;
     if is_scene || asked.trace.is_some() {
         predicted.write_references(folder)?;
@@ -79,9 +97,13 @@ fn item(
             quoted(path)
         ));
     }
+    let note = format!(
+        "{named} predicted, {psnr_said}{}",
+        moved::noted(tally.moved)
+    );
     let outcome = match all {
-        true => Outcome::done(format!("{named} predicted, {psnr_said}; all agree")),
-        false => Outcome::disagrees(format!("{named} predicted, {psnr_said}; NOT all agree")),
+        true => Outcome::done(format!("{note}; all agree")),
+        false => Outcome::disagrees(format!("{note}; NOT all agree")),
     };
     let names = ["psnr_y", "psnr_u", "psnr_v"];
     let facts = names.into_iter().zip(psnr);
@@ -94,11 +116,11 @@ fn item(
         asked.frame.into()
     };
     let folder = folder.path.display().to_string();
-    Ok(with_psnr
+    let with_blocks = with_psnr
         .fact("frame", frame)
         .fact("blocks", tally.blocks())
-        .fact("clipped", tally.clipped)
-        .fact("folder", &folder[..]))
+        .fact("clipped", tally.clipped);
+    Ok(moved::facts(with_blocks, tally.moved).fact("folder", &folder[..]))
 }
 
 pub fn run(given: &Given, console: &mut Console) -> std::result::Result<(), String> {

@@ -1,10 +1,11 @@
 //! A predicted picture: held to what it should be, told of, and written.
 
 use crate::call::Call;
-use crate::coded::{self, Coded, Kind, References};
+use crate::coded::{self, Answers, Coded, Kind};
 use crate::colour;
 use crate::folder::Folder;
 use crate::material::Material;
+use crate::moved;
 use crate::png::Image;
 use crate::report::{Console, Failure, Result};
 use crate::search::{Search, Vectors};
@@ -17,11 +18,11 @@ const REFERENCES: [&str; 2] = ["reference0", "reference1"];
 pub struct Predicted {
     pub material: Material,
     pub blocks: Vec<Coded>,
-    picture: Picture,
+    pub straight: Answers,
     pub trace: Vec<u8>,
     flip: Flip,
-    /// The same picture, by the references and blocks of the flipped reel.
-    flipped: Picture,
+    /// The same, by the references and blocks of the flipped reel.
+    flipped: Answers,
 }
 
 impl Predicted {
@@ -38,14 +39,14 @@ impl Predicted {
             vectors,
         };
         let blocks = search.blocks("motion search")?;
-        let picture = coded::predicted(&references.pictures, references.poc, &blocks)?;
+        let straight = coded::predicted(&references.pictures, references.poc, &blocks)?;
         let trace = coded::trace(references, &blocks)?;
         let turned: Vec<_> = blocks.iter().map(|coded| coded.flipped(flip)).collect();
         let flipped = coded::predicted(&references.flipped(flip)?, references.poc, &turned)?;
         Ok(Predicted {
             material,
             blocks,
-            picture,
+            straight,
             trace,
             flip,
             flipped,
@@ -58,39 +59,24 @@ impl Predicted {
         self.blocks.iter().map(|coded| coded.call(poc)).collect()
     }
 
-    /// Whether the flipped reel gives the same picture, sample for sample, once it is turned back.
+    /// Whether the flipped reel gives the same picture, sample for sample, once it is turned back, and
+    /// runs out of frame where the straight one does.
     pub fn hold_to_flip(&self, console: &mut Console) -> bool {
-        let (flip, back) = (self.flip, self.flipped.flipped(self.flip));
-        let difference = difference(&back, &self.picture);
+        let (flip, back) = (self.flip, self.flipped.picture.flipped(self.flip));
+        let reports = self.straight.reports.iter().zip(&self.flipped.reports);
+        let mut of_blocks = self.blocks.iter().zip(reports);
+        let difference = difference(&back, &self.straight.picture).or_else(|| {
+            of_blocks.find_map(|(coded, (report, flipped))| {
+                let back = flipped.map(|moved| moved.flipped(flip));
+                let what = moved::difference(back, *report)?;
+                Some(format!("{coded}: {what}"))
+            })
+        });
         console.say(match &difference {
             None => format!("flipped {flip}, predicted and turned back: equal sample for sample"),
             Some(what) => format!("flipped {flip}, predicted and turned back: NOT equal: {what}"),
         });
         difference.is_none()
-    }
-
-    /// Whether the trace, replayed, gives the picture again.
-    pub fn hold_to_replay(&self, console: &mut Console) -> Result<bool> {
-        let References {
-            pictures, col_mv, ..
-        } = &self.material.references;
-        let mut target = coded::target(self.material.references.sides())?;
-        let replay = evc_inter::replay(&self.trace, pictures.each_ref(), Some(col_mv), &mut target);
-        let is_same = target.samples() == self.picture.samples(); // borders too, which replay leaves
-        let what = match (replay.refusal, difference(&target, &self.picture)) {
-            (Some(_), _) => Some(replay.to_string()),
-            (None, None) if !is_same => Some("the border is changed".into()),
-            (None, difference) => difference,
-        };
-        let (records, bytes) = (self.blocks.len(), self.trace.len());
-        let gives = match &what {
-            None => "the same picture".into(),
-            Some(what) => format!("ANOTHER answer: {what}"),
-        };
-        console.say(format!(
-            "trace: {records} records, {bytes} bytes; replay gives {gives}"
-        ));
-        Ok(what.is_none())
     }
 
     /// What a describer is told of the picture.
@@ -102,7 +88,7 @@ impl Predicted {
     }
 
     pub fn psnr(&self) -> [Option<f64>; 3] {
-        [0, 1, 2].map(|c| colour::psnr(&self.picture, &self.material.picture, c))
+        [0, 1, 2].map(|c| colour::psnr(&self.straight.picture, &self.material.picture, c))
     }
 
     fn image(&self, picture: &Picture) -> Image {
@@ -114,22 +100,20 @@ impl Predicted {
         let Material {
             header, picture, ..
         } = &self.material;
-        let straight = self.image(&self.picture);
-        folder.y4m("predicted", header, &self.picture)?;
+        let predicted = &self.straight.picture;
+        let straight = self.image(predicted);
+        folder.y4m("predicted", header, predicted)?;
         folder.png("predicted", &straight)?;
         folder.y4m("true", header, picture)?;
         folder.png("true", &self.image(picture))?;
         folder.y4m(
             "difference",
             header,
-            &colour::difference(&self.picture, picture),
+            &colour::difference(predicted, picture),
         )?;
-        folder.png(
-            "difference",
-            &colour::difference_image(&self.picture, picture),
-        )?;
+        folder.png("difference", &colour::difference_image(predicted, picture))?;
         folder.png("blocks", &colour::outlined(straight.clone(), &self.blocks))?;
-        let back = self.image(&self.flipped.flipped(self.flip));
+        let back = self.image(&self.flipped.picture.flipped(self.flip));
         folder.png("side-by-side", &colour::side_by_side(&[straight, back]))?;
         let (map_mv, map_scu) = coded::maps(picture.sides(), &self.blocks);
         folder.raw("predicted.motion", map_mv.into_iter().map(i16::to_le_bytes))?;
@@ -149,8 +133,8 @@ impl Predicted {
     /// Writes the reel as it was scanned with the wrong side to the lens, beside the straight print.
     pub fn write_flipped(&self, folder: &mut Folder) -> Result<()> {
         let header = &self.material.header.flipped(self.flip);
-        folder.y4m("flipped", header, &self.flipped)?;
-        let images = [&self.picture, &self.flipped].map(|picture| self.image(picture));
+        folder.y4m("flipped", header, &self.flipped.picture)?;
+        let images = [&self.straight, &self.flipped].map(|answers| self.image(&answers.picture));
         folder.png("flipped", &colour::side_by_side(&images))?;
         for (name, picture) in REFERENCES.iter().zip(&self.material.references.pictures) {
             let flipped = picture.picture().flipped(self.flip);

@@ -2,7 +2,7 @@
 //! not shown.
 
 use crate::call::{Call, List};
-use crate::coded::References;
+use crate::coded::{Coded, Kind, References};
 use crate::report::{Failure, Result};
 use evc_inter::{evc_mv_clip, EvcBlock, EvcMv};
 use std::collections::BTreeSet;
@@ -71,7 +71,8 @@ pub fn said(calls: &[Call]) -> Result<String> {
     for call in calls {
         for List { mv, .. } in call.lists.into_iter().flatten() {
             vectors += 1;
-            clipped += u64::from(evc_mv_clip(call.block, mv).map_err(Failure::at(call))? != mv);
+            let report = evc_mv_clip(call.block, mv).map_err(Failure::at(call))?;
+            clipped += u64::from(report.moved.is_moved());
         }
     }
     Ok(format!(
@@ -79,6 +80,24 @@ pub fn said(calls: &[Call]) -> Result<String> {
         calls.len(),
         sizes.len()
     ))
+}
+
+/// Those that a trace has room for: list 1 is always the second picture there.
+pub fn coded(calls: &[Call]) -> Vec<Coded> {
+    let coded = |call: &Call| {
+        let kind = match call.lists {
+            [Some(_), None] => Kind::List0,
+            [None, _] => Kind::List1,
+            [Some(_), Some(list1)] if list1.from == 1 => Kind::Both,
+            _ => return None,
+        };
+        let mv = call
+            .lists
+            .map(|list| list.map_or(EvcMv::default(), |list| list.mv));
+        let block = call.block;
+        Some(Coded { block, kind, mv })
+    };
+    calls.iter().filter_map(coded).collect()
 }
 
 fn ways(references: &References, block: EvcBlock, mv: [EvcMv; 2]) -> Result<[Call; 5]> {
@@ -130,8 +149,8 @@ fn split(
 #[cfg(test)]
 mod tests {
     use super::*;
-    use crate::scene;
-    use evc_inter::Picture;
+    use crate::{general, moved, scene};
+    use evc_inter::{MovedMv, Picture};
 
     fn references(w: u32, h: u32) -> References {
         let picture = || Picture::new(w, h).unwrap().pad().unwrap();
@@ -158,12 +177,37 @@ mod tests {
         }
     }
 
+    /// A record predicts as its call does.
+    #[test]
+    fn of_a_trace() {
+        let references = references(64, 8);
+        let calls = calls(&references).unwrap();
+        let mut coded = coded(&calls).into_iter();
+        for (n, call) in calls.iter().enumerate().filter(|(n, _)| n % 5 < 4) {
+            let again = coded.next().unwrap().call(references.poc);
+            assert_eq!(again, *call, "{n}");
+        }
+        assert_eq!(coded.next(), None);
+    }
+
     /// What is tried at the size of the built-in scene.
     #[test]
     fn sorts() {
-        let calls = calls(&references(416, 240)).unwrap();
+        let references = references(416, 240);
+        let calls = calls(&references).unwrap();
         let said = said(&calls).unwrap();
         assert!(said.contains("in 25 sizes"), "{said}");
+        // Each component is clipped at each side, by each list.
+        let reports = calls.iter().map(general::report);
+        let counts = |list: usize| {
+            let alone = reports.clone().map(|report| report[list]);
+            let report = alone.map(|moved| [moved, MovedMv::default()]);
+            moved::counts(&report.collect::<Vec<_>>())
+        };
+        for counts in [counts(0), counts(1)] {
+            assert!(counts.across_low > 0 && counts.across_high > 0, "{counts}");
+            assert!(counts.down_low > 0 && counts.down_high > 0, "{counts}");
+        }
         let lists = || calls.iter().flat_map(|call| call.lists).flatten();
         assert!(lists().all(|list| list.mv.x > -32768 && list.mv.y > -32768));
         assert!(lists().any(|list| list.mv.x.unsigned_abs() > 16000));

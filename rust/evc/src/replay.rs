@@ -6,10 +6,11 @@ use crate::colour;
 use crate::folder::{folders, Folder};
 use crate::json::Json;
 use crate::material::padded;
+use crate::moved;
 use crate::output::Files;
 use crate::predict::WAYS;
 use crate::predicted::difference;
-use crate::report::{Console, Failure, Outcome, Result};
+use crate::report::{counted, Console, Failure, Outcome, Result};
 use crate::y4m::{Clip, Header};
 use evc_inter::{EvcTraceRecord, Flip, PaddedPicture, Picture, Replay, TraceMotion, TraceReader};
 use evc_inter::{MAX_SIDE, MOTION_LEN, TRACE_HEADER_LEN, TRACE_RECORD_LEN};
@@ -129,6 +130,9 @@ impl Desk {
         folder.y4m("replayed", &self.header, &target)?;
         let image = colour::image(&target, self.header.is_full_range());
         folder.png("replayed", &image)?;
+        if replay.finished > 0 {
+            console.say(moved::said(replay.moved)); // of the finished records, refused or not
+        }
         let agrees = match &self.beside {
             Some(beside) => self.set_beside(console, folder, beside, &target)?,
             None => true,
@@ -141,8 +145,12 @@ impl Desk {
                 "; {n} finished ones are direct and have zero vectors, for want of --motion"
             ),
         };
+        let finished = counted(replay.finished, "record");
+        let out_of_frame = moved::noted(replay.moved);
+        let refused = replay.result().err();
+        let refused = refused.map_or(String::new(), |error| format!("; {error}"));
         let more = self.said_more(&trace, &replay);
-        let note = format!("{replay}{more}{without_map}");
+        let note = format!("{finished} finished{out_of_frame}{refused}{more}{without_map}");
         let outcome = match (replay.result(), agrees) {
             (Ok(_), true) => Outcome::done(note),
             (Ok(_), false) => Outcome::disagrees(format!("{note}; NOT the picture beside it")),
@@ -157,8 +165,8 @@ impl Desk {
         let folder = folder.path.display().to_string();
         let outcome = outcome
             .fact("finished", replay.finished)
-            .fact("direct", direct)
-            .fact("folder", &folder[..]);
+            .fact("direct", direct);
+        let outcome = moved::facts(outcome, replay.moved).fact("folder", &folder[..]);
         Ok(match self.beside {
             Some(_) => outcome.fact("equal", Json::Bool(agrees)),
             None => outcome,

@@ -371,7 +371,7 @@ mod tests {
     fn difference(search: &Search, blocks: &[Coded]) -> u64 {
         let References { pictures, poc, .. } = search.references;
         let predicted = coded::predicted(pictures, *poc, blocks).unwrap();
-        let planes = predicted.planes.iter().zip(&search.picture.planes);
+        let planes = predicted.picture.planes.iter().zip(&search.picture.planes);
         let rows = planes.flat_map(|(a, b)| a.rows().zip(b.rows()));
         rows.map(|(a, b)| u64::from(super::difference(a, b))).sum()
     }

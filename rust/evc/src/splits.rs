@@ -10,7 +10,7 @@ pub fn is_clipping_hidden(call: &Call) -> Result<bool, Refusal> {
     let shows =
         |side: u32, mv: i16, clipped: i16| side == 64 && (1..=3).contains(&mv.abs_diff(clipped));
     for List { mv, .. } in call.lists.into_iter().flatten() {
-        let clipped = evc_mv_clip(b, mv)?;
+        let clipped = evc_mv_clip(b, mv)?.mv;
         if shows(b.w, mv.x, clipped.x) || shows(b.h, mv.y, clipped.y) {
             return Ok(false);
         }

@@ -1,6 +1,7 @@
-//! Demand 3: a call, the call turned, and whether their first blocks agree.
+//! Demand 3: a call, the call turned, and whether their first blocks and what they report agree.
 
 use crate::call::{Call, List};
+use crate::moved::Report;
 use crate::y4m::PLANES;
 use evc_inter::{cu_plane, EvcBlock, Flip};
 use std::fmt;
@@ -39,6 +40,17 @@ impl Turn {
         }
     }
 
+    /// What the turned call has to report.
+    pub fn report(self, mut report: Report) -> Report {
+        match self {
+            Turn::Mirror(flip) => report.map(|moved| moved.flipped(flip)),
+            Turn::Exchange => {
+                report.reverse();
+                report
+            }
+        }
+    }
+
     /// The first sample that is not where the turn puts it, if there is one.
     pub fn difference(self, b: &EvcBlock, straight: &[u16], turned: &[u16]) -> Option<String> {
         (0..3).find_map(|c| {
@@ -73,7 +85,7 @@ impl fmt::Display for Turn {
 #[cfg(test)]
 mod tests {
     use super::*;
-    use evc_inter::{EvcMv, CU_LEN};
+    use evc_inter::{EvcMv, Moved, MovedMv, CU_LEN};
 
     fn call() -> Call {
         let mv = EvcMv { x: 13, y: -32767 };
@@ -104,6 +116,21 @@ mod tests {
         let left_right = Turn::Mirror(Flip::LeftRight).call(&call());
         assert_eq!((left_right.block.x, left_right.block.y), (40, 4));
         assert_eq!(left_right.lists[0].unwrap().mv, EvcMv { x: -13, y: -32767 });
+    }
+
+    #[test]
+    fn reports() {
+        let [low, high] = [Moved::Low, Moved::High].map(|x| MovedMv { x, y: Moved::Low });
+        let none = MovedMv::default();
+        let across = Turn::Mirror(Flip::LeftRight);
+        assert_eq!(across.report([low, none]), [high, none]);
+        let down = Turn::Mirror(Flip::TopBottom);
+        let bottom = MovedMv {
+            y: Moved::High,
+            ..low
+        };
+        assert_eq!(down.report([none, low]), [none, bottom]);
+        assert_eq!(Turn::Exchange.report([low, none]), [none, low]);
     }
 
     #[test]

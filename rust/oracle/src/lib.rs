@@ -55,7 +55,7 @@ pub mod mv_clip_lists;
 pub mod pad_lists;
 pub mod replay_lists;
 pub mod util_lists;
-pub use mc::calls::{evc_mc_plane, mv_clip, Picture, References};
+pub use mc::calls::{evc_mc_plane, mv_clip, mv_clip_of_lists, Picture, References};
 pub use plane::calls::{pad, pad_plane, plane_config, plane_of};
 pub use plane::Plane;
 pub use util::calls::{evc_get_avail_inter, evc_get_motion, evc_get_mv_dir};

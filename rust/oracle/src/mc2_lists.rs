@@ -1,12 +1,12 @@
 //! The lists of calls of block prediction with their answers: one list with the Rust's answers, and
-//! one of refusals, which the Rust does not have and document 01 (`model`) answers. README.md has the
+//! one of refusals, which the Rust does not have and the documents (`model`) answer. README.md has the
 //! layout.
 
 use crate::cases::{
     arbitrary, hash, random_block, sides, vector, BlockCall, Rng, Toward, TOWARDS, USES,
 };
-use crate::lists::{narrow, small, List};
-use crate::model::{Block, Mv, OnePlane, PRED_LEN};
+use crate::lists::{narrow, small, spaced, List};
+use crate::model::{Block, Mv, OnePlane, Predicted, NOTHING_MOVED, PRED_LEN};
 use crate::{pad, plane_config, plane_of, Picture};
 
 /// Samples that a plane of this picture needs.
@@ -99,7 +99,7 @@ impl Case {
     }
 }
 
-/// Planes and the calls on them. Where document 01 refuses nothing, the Rust has to agree.
+/// Planes and the calls on them. Where nothing is refused, the Rust has to agree.
 fn push(list: &mut List, lent: &Lent, cases: &[Case]) {
     let set = lent.set.map_or([6, 0, 0], |set| {
         [small(set.plane), small(set.place), set.value]
@@ -139,16 +139,23 @@ fn push(list: &mut List, lent: &Lent, cases: &[Case]) {
 
         let [mut pred0, mut pred1] = [0, 1].map(|k| arbitrary(len[k], seed[k]));
         let [mut rust0, mut rust1] = [pred0.clone(), pred1.clone()];
-        let code = c.by_the_document(planes, &mut pred0, &mut pred1);
+        let Predicted { code, moved } = c.by_the_document(planes, &mut pred0, &mut pred1);
+        let mut rust_moved = [NOTHING_MOVED; 2];
         if code == 0 {
             assert!(c.in_domain(), "{:?}", c);
             let make = || [0, 3].map(|first| lent.picture(&samples[first..first + 3]));
             let pictures = pictures.get_or_insert_with(make);
             c.by_the_rust(pictures.each_ref(), &mut rust0, &mut rust1);
+            rust_moved = c.moved_by_the_rust();
         }
-        let is_same = rust0 == pred0 && rust1 == pred1;
-        assert!(is_same, "the Rust and document 01: {:?}", c);
-        list.answer(&format!("{code} {} {}", hash(&rust0), hash(&rust1)));
+        let is_same = rust0 == pred0 && rust1 == pred1 && rust_moved == moved;
+        assert!(is_same, "the Rust and the documents: {:?}", c);
+        let reports = spaced(&rust_moved.concat());
+        list.answer(&format!(
+            "{code} {reports} {} {}",
+            hash(&rust0),
+            hash(&rust1)
+        ));
     }
 }
 
@@ -287,6 +294,7 @@ pub fn bad() -> [Vec<u8>; 2] {
     lengths(&mut list, &mut rng);
     counts(&mut list, &mut rng);
     examined(&mut list, &mut rng);
+    moved(&mut list, &mut rng);
     list.done()
 }
 
@@ -541,6 +549,54 @@ fn examined(list: &mut List, rng: &mut Rng) {
                 Case::new(c, rng)
             })
             .collect();
+        push(list, &lent, &cases);
+    }
+}
+
+/// Document 02, W2: "a refused clipping or block call, reports nothing moved": vectors that are moved in both
+/// components, each to another side, accepted and refused by every number.
+fn moved(list: &mut List, rng: &mut Rng) {
+    let whole = Lent::new([20, 12], rng);
+    let bad_picture = Lent {
+        pic: [22, 12],
+        ..whole.clone()
+    };
+    let bad_samples = Lent {
+        limit: 65535,
+        ..whole.clone()
+    };
+    let none: fn(&mut Case) = |_| ();
+    let of_a_call: [fn(&mut Case); 5] = [
+        none,
+        |case| case.c.b.side[0] = 12,
+        |case| case.c.used = [false; 2],
+        |case| case.len[1] = PRED_LEN - 1,
+        |case| case.c.poc = [32768; 2],
+    ];
+    for (lent, faults) in [
+        (whole, &of_a_call[..]),
+        (bad_picture, &[none]),
+        (bad_samples, &[none]),
+    ] {
+        let mut cases = Vec::new();
+        for used in USES {
+            for fault in faults {
+                let b = Block {
+                    pic: lent.pic,
+                    place: [8, 4],
+                    side: [8, 4],
+                };
+                let c = BlockCall {
+                    b,
+                    used,
+                    mv: [[-2000, 2000], [2000, -2000]],
+                    poc: [3, 4],
+                };
+                let mut case = Case::new(c, rng);
+                fault(&mut case);
+                cases.push(case);
+            }
+        }
         push(list, &lent, &cases);
     }
 }

@@ -1,5 +1,5 @@
-//! Every call as document 01 tells it, refusals included, and document 02's laws. Written from their sentences, which are quoted, and not from the Rust:
-//! samples and whole numbers, one unit or one sample at a time.
+//! Every call as document 01 tells it, refusals included, with document 02's reports of clipping and its laws. Written from their sentences, which are
+//! quoted, and not from the Rust: samples and whole numbers, one unit or one sample at a time.
 
 pub mod camera;
 pub mod trace;
@@ -468,29 +468,37 @@ pub fn pad(chroma: bool, pic: [u32; 2], plane: &mut [u16]) -> u32 {
     0
 }
 
-/// 'Clipping': the number returned and the vector.
-pub fn clip(b: &Block, mv: Mv) -> (u32, Mv) {
+/// Document 02, W2: "for each component whether it was moved to the low side, the high side or not at
+/// all". The side is the limit's: a component that is too low rises to the low one.
+pub type Moved = [u8; 2];
+
+pub const NOT_MOVED: u8 = 0;
+pub const LOW: u8 = 1;
+pub const HIGH: u8 = 2;
+
+/// "a list not in use, or a refused clipping or block call, reports nothing moved"
+pub const NOTHING_MOVED: Moved = [NOT_MOVED; 2];
+
+/// 'Clipping': the number returned, the vector and, "beside the vector", the reports.
+pub fn clip(b: &Block, mv: Mv) -> (u32, Mv, Moved) {
     let code = first_refusal(&[(1, b.is_picture_refused()), (2, b.is_block_refused())]);
     if code != 0 {
-        return (code, [0, 0]);
+        return (code, [0, 0], NOTHING_MOVED);
     }
-    let clipped = |d| {
-        let [pic, x, w, mvx] = b.component(mv, d);
-        clipped(pic, x, w, mvx) as i16
-    };
-    (0, [clipped(0), clipped(1)])
+    let [(mvx, moved_x), (mvy, moved_y)] = b.clipped(mv);
+    (0, [mvx as i16, mvy as i16], [moved_x, moved_y])
 }
 
-/// 'Clipping' in one direction, with the exact sums: "if 4x + mvx < -256, the vector becomes -256 - 4x;
-/// if 4x + mvx + 4w - 4 > 4(W - 1 + 64), it becomes that limit - 4x - 4w + 4".
-pub fn clipped(pic: i64, x: i64, w: i64, mvx: i64) -> i64 {
+/// 'Clipping' in one direction, with the exact sums, and its report: "if 4x + mvx < -256, the vector
+/// becomes -256 - 4x; if 4x + mvx + 4w - 4 > 4(W - 1 + 64), it becomes that limit - 4x - 4w + 4".
+pub fn clipped(pic: i64, x: i64, w: i64, mvx: i64) -> (i64, u8) {
     let limit = 4 * (pic - 1 + 64);
     if 4 * x + mvx < -256 {
-        -256 - 4 * x
+        (-256 - 4 * x, LOW)
     } else if 4 * x + mvx + 4 * w - 4 > limit {
-        limit - 4 * x - 4 * w + 4
+        (limit - 4 * x - 4 * w + 4, HIGH)
     } else {
-        mvx
+        (mvx, NOT_MOVED)
     }
 }
 
@@ -499,6 +507,14 @@ impl Block {
     fn component(&self, mv: Mv, d: usize) -> [i64; 4] {
         let [pic, place, side] = [self.pic[d], self.place[d], self.side[d]].map(i64::from);
         [pic, place, side, i64::from(mv[d])]
+    }
+
+    /// The clipped component and its report, across and down.
+    fn clipped(&self, mv: Mv) -> [(i64, u8); 2] {
+        [0, 1].map(|d| {
+            let [pic, x, w, mvx] = self.component(mv, d);
+            clipped(pic, x, w, mvx)
+        })
     }
 
     /// "4 × x + mvx + 4 × w at most 32,767, and likewise in y"
@@ -512,10 +528,8 @@ impl Block {
 
     /// "A list's clipped place is 4x + mvx across and 4y + mvy down, with the clipped vector."
     pub fn clipped_place(&self, mv: Mv) -> Mv {
-        [0, 1].map(|d| {
-            let [pic, x, w, mvx] = self.component(mv, d);
-            (4 * x + clipped(pic, x, w, mvx)) as i16
-        })
+        let clipped = self.clipped(mv);
+        [0, 1].map(|d| (4 * i64::from(self.place[d]) + clipped[d].0) as i16)
     }
 }
 
@@ -570,8 +584,26 @@ pub fn is_bi(b: &Block, lists: &[List; 2]) -> bool {
     l.used && m.used && !is_same
 }
 
-/// 'Block': the number returned; both blocks become what they hold afterwards.
-pub fn block(b: &Block, lists: &[List; 2], pred0: &mut [u16], pred1: &mut [u16]) -> u32 {
+/// What block prediction returns: its number, and the reports of list 0 and list 1.
+#[derive(Clone, Copy, Debug, PartialEq)]
+pub struct Predicted {
+    pub code: u32,
+    pub moved: [Moved; 2],
+}
+
+/// 'Block': the number and the reports; both blocks become what they hold afterwards.
+pub fn block(b: &Block, lists: &[List; 2], pred0: &mut [u16], pred1: &mut [u16]) -> Predicted {
+    let mut moved = [NOTHING_MOVED; 2];
+    let code = predict(b, lists, pred0, pred1);
+    // "Block prediction and replay pass these reports up", also where list 0 alone stands: both are in use
+    for k in (0..2).filter(|k| code == 0 && lists[*k].used) {
+        moved[k] = b.clipped(lists[k].mv).map(|(_, report)| report);
+    }
+    Predicted { code, moved }
+}
+
+/// Without the reports.
+fn predict(b: &Block, lists: &[List; 2], pred0: &mut [u16], pred1: &mut [u16]) -> u32 {
     let in_use: Vec<&List> = lists.iter().filter(|list| list.used).collect();
     let code = first_refusal(&[
         (1, b.is_picture_refused()),
@@ -651,9 +683,9 @@ pub fn exact_block(b: &Block, lists: &[List; 2]) -> [Vec<u16>; 3] {
 
 impl Block {
     /// By how many quarter samples clipping moves a vector in one direction.
-    pub fn moved(&self, mv: Mv, d: usize) -> u64 {
-        let [pic, x, w, mvx] = self.component(mv, d);
-        clipped(pic, x, w, mvx).abs_diff(mvx)
+    pub fn moved_by(&self, mv: Mv, d: usize) -> u64 {
+        let (clipped, _) = self.clipped(mv)[d];
+        clipped.abs_diff(mv[d].into())
     }
 
     /// "for sides of at most 32 clipping changes no sample .., and .. for chroma it never does": where it
@@ -661,7 +693,7 @@ impl Block {
     /// moves the vector by one to three quarter samples.
     pub fn is_clipping_hidden(&self, lists: &[List; 2], plane: usize) -> bool {
         let can_show = |list: &List, d: usize| {
-            plane == 0 && self.side[d] == 64 && (1..=3).contains(&self.moved(list.mv, d))
+            plane == 0 && self.side[d] == 64 && (1..=3).contains(&self.moved_by(list.mv, d))
         };
         let mut in_use = lists.iter().filter(|list| list.used);
         !in_use.any(|list| can_show(list, 0) || can_show(list, 1))

@@ -130,7 +130,7 @@ pub fn mv_clip() -> [Vec<u8>; 2] {
             place: [x, y],
             side: [w, h],
         };
-        let (code, [mvx, mvy]) = model::clip(&b, [record[6], record[7]]);
+        let (code, [mvx, mvy], _) = model::clip(&b, [record[6], record[7]]);
         list.answer(&format!("{code} {mvx} {mvy}"));
     }
     // 15 bytes of a record

@@ -1,8 +1,8 @@
 //! The lists of traces to replay with their answers: one with the Rust's answers, and one of refusals, which
-//! the Rust does not have and document 02's W1 (`model::trace`) answers. README.md has the layout.
+//! the Rust does not have and document 02's W1 and W2 (`model::trace`) answer. README.md has the layout.
 
 use crate::cases::{arbitrary, hash, random_block, record, sides, trace, vector, ByTheRust, Rng};
-use crate::lists::{small, List};
+use crate::lists::{small, spaced, List};
 use crate::mc2_lists::{needed, random_vector, towards, Set};
 use crate::model::trace::{replay, replay_by, Header, Lent, Record, Replay};
 use crate::model::trace::{HEADER_LEN, RECORD_LEN};
@@ -153,7 +153,7 @@ impl Case {
             };
             let all = replay_by(&mut rust, before, &mut by_the_rust);
             assert!(!rust.is_beyond, "outside the comparison domain");
-            assert_eq!((all.code, all.index), (0, answer.index));
+            assert_eq!(all, Replay { code: 0, ..answer });
         }
         assert!(target == by_the_rust, "the Rust and document 02");
         (answer, target)
@@ -169,15 +169,15 @@ fn push(list: &mut List, case: &Case) -> Replay {
     let (answer, target) = case.answer();
     list.records.extend(case.bytes());
     let [y, u, v] = [0, 1, 2].map(|k| hash(&target[k]));
-    let Replay { code, index } = answer;
-    list.answer(&format!("{code} {index} {y} {u} {v}"));
+    let Replay { code, index, moved } = answer;
+    list.answer(&format!("{code} {index} {} {y} {u} {v}", spaced(&moved)));
     answer
 }
 
 /// A case that is meant to have this answer.
 fn expect(list: &mut List, case: &Case, code: u32, index: usize) {
-    let index = index as u64;
-    assert_eq!(push(list, case), Replay { code, index });
+    let answer = push(list, case);
+    assert_eq!((answer.code, answer.index), (code, index as u64));
 }
 
 // ---- accepted traces
@@ -446,6 +446,7 @@ pub fn bad() -> [Vec<u8>; 2] {
     blocks(&mut list, &mut rng);
     counts(&mut list, &mut rng);
     examined(&mut list, &mut rng);
+    moved(&mut list, &mut rng);
     list.done()
 }
 
@@ -749,5 +750,57 @@ fn examined(list: &mut List, rng: &mut Rng) {
         let header = header(pic, 4, 1);
         case.trace = trace(&header, &random_records(&case, &header, &KINDS, 24, rng));
         assert_eq!(push(list, &case).code, 6);
+    }
+}
+
+/// Document 02, W2: counts "over the finished records, refused or not". Behind records whose vectors were moved,
+/// and as the first, stands one whose vectors lead as far, accepted and refused by every number; others follow.
+fn moved(list: &mut List, rng: &mut Rng) {
+    let of = |kind, mv, poc| record(&some_block(), kind, mv, poc);
+    let finished = [
+        of(0, [[-2000, 2000]; 2], [1, 2]),
+        of(1, [[-2000, -2000]; 2], [1, 2]),
+        of(2, [[-2000, -2000], [-2000, 5]], [1, 2]),
+        of(2, [[2000, 5], [3000, 5]], [7, 7]), // list 0 alone stands
+        of(1, [[2000, 5]; 2], [1, 2]),
+    ];
+    let far = of(2, [[2000, 2000], [-2000, -2000]], [1, 2]);
+    let faults: [(u32, fn(&mut Case, &mut Vec<u8>)); 6] = [
+        (0, |_, _| ()),
+        (11, |_, bytes| bytes.truncate(21)),
+        (12, |_, bytes| bytes[LAST] = 1),
+        (2, |_, bytes| bytes[4] = 12),
+        (5, |_, bytes| bytes[POC0 + 1] = 128),
+        (6, |case, _| {
+            // where the window of no other record lies
+            let cfg = plane_config(false, PIC[0] as usize, PIC[1] as usize);
+            case.set = Some(Set {
+                plane: 0,
+                place: (cfg.yorigin + 16) * cfg.stride + cfg.xorigin + 24,
+                value: 1024,
+            });
+        }),
+    ];
+    for (before, counts) in [(&finished[..], [4, 3, 2, 1]), (&[], [0; 4])] {
+        for (code, fault) in &faults {
+            let mut case = Case::exact(PIC, rng);
+            let mut bytes = far.bytes();
+            fault(&mut case, &mut bytes);
+            case.trace = trace(&some_header(), before);
+            case.trace.extend(&bytes);
+            let mut want = Replay {
+                code: *code,
+                index: before.len() as u64,
+                moved: counts,
+            };
+            if *code != 11 {
+                case.trace.extend(finished[0].bytes());
+            }
+            if *code == 0 {
+                want.index += 2;
+                want.moved = [0, 1, 2, 3].map(|k| counts[k] + [2, 1, 1, 2][k]);
+            }
+            assert_eq!(push(list, &case), want);
+        }
     }
 }

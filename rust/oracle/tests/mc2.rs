@@ -1,7 +1,7 @@
-//! The Rust's `evc_mc2` against document 01 (`oracle::model`), 'Block' and 'What demand 3 compares', and document 02, W6.
+//! The Rust's `evc_mc2` against document 01 (`oracle::model`), 'Block' and 'What demand 3 compares', and document 02, W2 and W6.
 
 use oracle::cases::*;
-use oracle::model::{self, Block, OFFSETS, PRED_LEN};
+use oracle::model::{self, Block, Predicted, HIGH, LOW, NOTHING_MOVED, OFFSETS, PRED_LEN};
 use oracle::{pad, plane_config, plane_of, Picture};
 
 const PICTURES: [[u32; 2]; 7] = [
@@ -85,15 +85,16 @@ fn old_blocks(rng: &mut Rng) -> [Vec<u16>; 2] {
     [0, 1].map(|_| samples[rng.below(20)..].to_vec())
 }
 
-/// The Rust and the document leave the same in both blocks, all of them compared. These, and what
-/// they held before.
+/// The Rust and the document leave the same in both blocks, all of them compared, and the reports are
+/// what the Rust's `mv_clip` shows. Both blocks.
 fn assert_call(c: &BlockCall, planes: [&Planes; 2], old: &[Vec<u16>; 2]) -> [Vec<u16>; 2] {
     assert!(c.in_domain(), "{:?}", c);
     let [mut pred0, mut pred1] = old.clone();
     c.by_the_rust(planes.map(|p| &p.picture), &mut pred0, &mut pred1);
     let [mut want0, mut want1] = old.clone();
-    let code = c.by_the_document(planes.map(Planes::slices), &mut want0, &mut want1);
-    assert_eq!(code, 0, "{c:?}");
+    let answer = c.by_the_document(planes.map(Planes::slices), &mut want0, &mut want1);
+    let moved = c.moved_by_the_rust();
+    assert_eq!(answer, Predicted { code: 0, moved }, "{c:?}");
     assert!(pred0 == want0, "first block: {:?}", c);
     assert!(pred1 == want1, "second block: {:?}", c);
     [pred0, pred1]
@@ -209,7 +210,7 @@ fn largest_sides() {
 #[test]
 fn equal_motion() {
     let mut rng = Rng(34);
-    let (mut calls, mut by_clipping) = (0, 0);
+    let (mut calls, mut by_clipping, mut moved) = (0, 0, 0);
     for pic in PICTURES {
         let planes = [(); 2].map(|_| Planes::new(pic, false, &mut rng));
         let planes = planes.each_ref();
@@ -236,6 +237,8 @@ fn equal_motion() {
                 let alone = assert_call(&one, planes, &old);
                 assert!(alone[1] == old[1], "{:?}", one);
                 assert!(assert_call(&both, planes, &old) == alone, "{:?}", both);
+                // list 1 is in use, so its report stays
+                moved += usize::from(both.moved_by_the_rust()[1] != NOTHING_MOVED);
 
                 let two = BlockCall {
                     poc: [7, 8],
@@ -252,7 +255,7 @@ fn equal_motion() {
             }
         }
     }
-    assert_eq!((calls, by_clipping), (2412, 135));
+    assert_eq!((calls, by_clipping, moved), (2412, 135, 509));
 }
 
 /// A call for demand 3 over two pictures, and which of these each list has: with equal counts the same.
@@ -302,7 +305,7 @@ fn rust_predicted(c: &BlockCall, planes: [&Planes; 2], old: &[Vec<u16>; 2]) -> [
 #[test]
 fn mirrored() {
     let mut rng = Rng(36);
-    let mut calls = 0;
+    let (mut calls, mut moved) = (0, 0);
     for (k, &pic) in PICTURES.iter().enumerate() {
         let straight = [(); 2].map(|_| Planes::new(pic, k % 2 == 1, &mut rng).padded());
         let old = old_blocks(&mut rng);
@@ -331,19 +334,24 @@ fn mirrored() {
                             assert_eq!(pair[0], pair[1], "{c:?}, plane {plane} at {x}, {y}");
                         }
                     }
+                    let straight = c.moved_by_the_rust();
+                    let mut want = straight;
+                    want.iter_mut().for_each(|m| m[d] = other_side(m[d]));
+                    assert_eq!(turned_call.moved_by_the_rust(), want, "{c:?}");
                     calls += 1;
+                    moved += usize::from(want != straight);
                 }
             }
         }
     }
-    assert_eq!(calls, 7732);
+    assert_eq!((calls, moved), (7732, 4592));
 }
 
 /// "Exchange swaps the lists' planes, vectors, counts and whether they are in use".
 #[test]
 fn exchanged() {
     let mut rng = Rng(37);
-    let mut calls = 0;
+    let (mut calls, mut moved) = (0, 0);
     for (k, &pic) in PICTURES.iter().enumerate() {
         let planes = [(); 2].map(|_| Planes::new(pic, k % 2 == 1, &mut rng).padded());
         let old = old_blocks(&mut rng);
@@ -351,17 +359,20 @@ fn exchanged() {
             for _ in 0..200 {
                 let (mut c, mut which) = demand_3(pic, used, &mut rng);
                 let want = rust_predicted(&c, which.map(|k| &planes[k]), &old);
+                let [first, second] = c.moved_by_the_rust();
                 c.used.reverse();
                 c.mv.reverse();
                 c.poc.reverse();
                 which.reverse();
                 let got = rust_predicted(&c, which.map(|k| &planes[k]), &old);
                 assert_eq!(got, want, "{c:?}");
+                assert_eq!(c.moved_by_the_rust(), [second, first], "{c:?}");
                 calls += 1;
+                moved += usize::from(first != second);
             }
         }
     }
-    assert_eq!(calls, 7 * 3 * 200);
+    assert_eq!((calls, moved), (7 * 3 * 200, 3081));
 }
 
 /// A call for W6: every side is as likely.
@@ -378,8 +389,11 @@ fn w6(pic: [u32; 2], used: [bool; 2], rng: &mut Rng) -> (BlockCall, [usize; 2]) 
 
 /// Whether clipping moves a vector in use.
 fn is_clipped(c: &BlockCall) -> bool {
-    let is_moved = |k: usize| (0..2).any(|d| c.b.moved(c.mv[k], d) > 0);
-    (0..2).any(|k| c.used[k] && is_moved(k))
+    let is_moved = |k: usize| (0..2).any(|d| c.b.moved_by(c.mv[k], d) > 0);
+    let is_clipped = (0..2).any(|k| c.used[k] && is_moved(k));
+    // W6's 'need no clipping' is 'nothing moved'
+    assert_eq!(is_clipped, c.moved_by_the_rust() != [NOTHING_MOVED; 2]);
+    is_clipped
 }
 
 /// Calls for W6 in four pictures, with each use of the lists: the call, its planes, and what the blocks held.
@@ -491,7 +505,8 @@ fn clipping_shows() {
     }
 }
 
-/// Refusals in the order of their numbers; both blocks stay. The Rust has none.
+/// Refusals in the order of their numbers; both blocks stay, and nothing is reported of vectors that are moved
+/// where the call is accepted. The Rust has none.
 #[test]
 fn refusals() {
     let good = BlockCall {
@@ -501,7 +516,7 @@ fn refusals() {
             side: [8, 4],
         },
         used: [true, true],
-        mv: [[1, 9], [-7, 2]],
+        mv: [[-2000, 9], [-7, 2000]],
         poc: [32767, 0],
     };
     let planes = Planes::of(
@@ -511,9 +526,15 @@ fn refusals() {
     let whole = [planes.slices(); 2];
     let answer = |c: &BlockCall, planes: [[&[u16]; 3]; 2], len: [usize; 2]| {
         let [mut pred0, mut pred1] = len.map(|len| vec![7; len]);
-        let code = c.by_the_document(planes, &mut pred0, &mut pred1);
+        let Predicted { code, moved } = c.by_the_document(planes, &mut pred0, &mut pred1);
         let is_kept = pred0.iter().chain(&pred1).all(|sample| *sample == 7);
         assert_eq!(code != 0, is_kept, "{c:?}");
+        let reports = [[LOW, 0], [0, HIGH]];
+        let of_list = |k: usize| match code == 0 && c.used[k] {
+            true => reports[k],
+            false => NOTHING_MOVED,
+        };
+        assert_eq!(moved, [of_list(0), of_list(1)], "{c:?}");
         code
     };
     let enough = [PRED_LEN; 2];
@@ -583,7 +604,7 @@ fn examined_samples() {
                 let mut planes = [low; 2];
                 planes[list][plane] = &high;
                 let [mut pred0, mut pred1] = [(); 2].map(|_| vec![7; PRED_LEN]);
-                let code = c.by_the_document(planes, &mut pred0, &mut pred1);
+                let Predicted { code, .. } = c.by_the_document(planes, &mut pred0, &mut pred1);
                 // document 01: the place less 2 or 1, then w + 5 or w/2 + 3
                 let part = if plane > 0 { 8 } else { 4 };
                 let before = if plane > 0 { 1 } else { 2 };

@@ -1,9 +1,9 @@
 //! Document 02's W1 as `oracle::model::trace` has it: the bytes of a trace, its writers, and replay against the
-//! Rust's own calls, one by one.
+//! Rust's own calls, one by one, with W2's counts.
 
 use oracle::cases::*;
 use oracle::model::trace::*;
-use oracle::model::{self, Block, Collocated, OFFSETS, PRED_LEN};
+use oracle::model::{self, Block, Collocated, HIGH, LOW, OFFSETS, PRED_LEN};
 use oracle::{plane_config, plane_of, Picture};
 
 #[test]
@@ -188,6 +188,13 @@ fn samples(pic: [u32; 2], rng: &mut Rng) -> [Vec<u16>; 3] {
     })
 }
 
+/// What a replay leaves behind: the counts of moved components, and the target.
+#[derive(PartialEq)]
+struct State {
+    moved: Counts,
+    target: [Vec<u16>; 3],
+}
+
 /// What a replay is lent.
 struct Fixture {
     header: Header,
@@ -239,11 +246,11 @@ impl Fixture {
         }
     }
 
-    /// The model's answer, and the target afterwards.
-    fn replay(&self, trace: &[u8]) -> (Replay, [Vec<u16>; 3]) {
+    /// The model's number and index, and what is left behind.
+    fn replay(&self, trace: &[u8]) -> (u32, u64, State) {
         let mut target = self.target.clone();
-        let answer = replay(self.lent(trace), &mut target);
-        (answer, target)
+        let Replay { code, index, moved } = replay(self.lent(trace), &mut target);
+        (code, index, State { moved, target })
     }
 
     /// A record inside the comparison domain.
@@ -273,9 +280,11 @@ impl Fixture {
         Picture::new([0, 1, 2].map(|k| plane_of(k > 0, w, h, &planes[k])))
     }
 
-    /// What the Rust's calls give for the records, the blocks put into revc's planes.
-    fn by_the_rust(&self, records: &[Record]) -> [Vec<u16>; 3] {
+    /// What the Rust's calls give for the records, the blocks put into revc's planes, and how many components its
+    /// `mv_clip` moved.
+    fn by_the_rust(&self, records: &[Record]) -> State {
         let pictures = [self.picture(0), self.picture(1)];
+        let mut moved = [0; 4];
         let mut target = self.target.clone();
         for r in records {
             let b = Block {
@@ -297,6 +306,12 @@ impl Fixture {
             assert!(call.in_domain(), "{:?}", call);
             let [mut pred0, mut pred1] = [(); 2].map(|_| vec![5000; PRED_LEN]);
             call.by_the_rust([&pictures[0], &pictures[1]], &mut pred0, &mut pred1);
+            for [across, down] in call.moved_by_the_rust() {
+                moved[0] += u64::from(across == LOW);
+                moved[1] += u64::from(across == HIGH);
+                moved[2] += u64::from(down == LOW);
+                moved[3] += u64::from(down == HIGH);
+            }
             for k in 0..3 {
                 let shift = usize::from(k > 0);
                 let cfg = plane_config(k > 0, b.pic[0] as usize, b.pic[1] as usize);
@@ -309,7 +324,7 @@ impl Fixture {
                 }
             }
         }
-        target
+        State { moved, target }
     }
 }
 
@@ -321,7 +336,7 @@ fn random_count(rng: &mut Rng) -> u16 {
 #[test]
 fn one_by_one() {
     let mut rng = Rng(72);
-    let (mut replays, mut blocks) = (0, 0);
+    let (mut replays, mut blocks, mut components) = (0, 0, [0; 4]);
     for pic in [[4, 4], [8, 4], [20, 16], [36, 28], [64, 64], [4, 132]] {
         for is_padded in [false, true] {
             for has_map in [false, true] {
@@ -334,21 +349,23 @@ fn one_by_one() {
                         .map(|kind| fixture.record(kind, &mut rng))
                         .collect();
                     let bytes = trace(&fixture.header, &records);
-                    let (answer, target) = fixture.replay(&bytes);
-                    assert_eq!((answer.code, answer.index), (0, n), "{records:?}");
-                    let is_same = target == fixture.by_the_rust(&records);
+                    let (code, index, state) = fixture.replay(&bytes);
+                    assert_eq!((code, index), (0, n), "{records:?}");
+                    let is_same = state == fixture.by_the_rust(&records);
                     assert!(is_same, "{:?} {:?}", fixture.header, records);
                     replays += 1;
                     blocks += records.len();
+                    components = sum(components, state.moved);
                 }
             }
         }
     }
     assert_eq!((replays, blocks), (6 * 2 * 2 * 5, 6 * 2 * 2 * 32));
+    assert_eq!(components, [253, 258, 254, 273]);
 }
 
-/// A trace of every kind over blocks that overlap, and what the target holds before each record and at the end.
-fn for_damage() -> (Fixture, Vec<Record>, Vec<[Vec<u16>; 3]>) {
+/// A trace of every kind over blocks that overlap, and what is left behind before each record and at the end.
+fn for_damage() -> (Fixture, Vec<Record>, Vec<State>) {
     let mut rng = Rng(73);
     let mut fixture = Fixture::new([20, 12], true, true, &mut rng);
     (fixture.header.poc, fixture.header.list_poc0) = (4, 1);
@@ -366,22 +383,22 @@ fn for_damage() -> (Fixture, Vec<Record>, Vec<[Vec<u16>; 3]>) {
     (fixture, records, states)
 }
 
+fn sum(a: Counts, b: Counts) -> Counts {
+    [0, 1, 2, 3].map(|k| a[k] + b[k])
+}
+
 /// A trace cut at every length: "11 for an incomplete header", "11 if incomplete", with the blocks before.
 #[test]
 fn cut() {
     let (fixture, records, states) = for_damage();
     let whole = trace(&fixture.header, &records);
     for len in 0..=whole.len() {
-        let (answer, target) = fixture.replay(&whole[..len]);
+        let (code, index, state) = fixture.replay(&whole[..len]);
         let finished = len.saturating_sub(13) / 22;
         let is_whole = len >= 13 && (len - 13) % 22 == 0;
-        let code = if is_whole { 0 } else { 11 };
-        assert_eq!(
-            (answer.code, answer.index),
-            (code, finished as u64),
-            "{len} bytes"
-        );
-        assert!(target == states[finished], "{} bytes", len);
+        let want = if is_whole { 0 } else { 11 };
+        assert_eq!((code, index), (want, finished as u64), "{len} bytes");
+        assert!(state == states[finished], "{} bytes", len);
     }
 }
 
@@ -425,8 +442,8 @@ fn changed() {
     for (at, value) in changes {
         let mut damaged = whole.clone();
         damaged[at] = value;
-        let (answer, target) = fixture.replay(&damaged);
-        let (code, index) = (answer.code, answer.index as usize);
+        let (code, index, state) = fixture.replay(&damaged);
+        let index = index as usize;
         seen[code as usize] += 1;
         let allowed: &[u32] = match at {
             0..=4 => &[10],
@@ -451,12 +468,12 @@ fn changed() {
         }
         let is_same_picture = !(5..=8).contains(&at);
         if code != 0 && (is_same_picture || index == 0) {
-            assert!(target == states[index], "{} at {}", value, at);
+            assert!(state == states[index], "{} at {}", value, at);
         }
         if code == 0 && is_of_a_record {
             let now = Record::read(&damaged[13 + 22 * damaged_record..]);
             let blocks = [&records[damaged_record], &now];
-            let is_same = without(&target, blocks) == without(&states[n], blocks);
+            let is_same = without(&state.target, blocks) == without(&states[n].target, blocks);
             assert!(is_same, "{} at {}", value, at);
         }
     }
@@ -464,8 +481,8 @@ fn changed() {
     assert_eq!(seen, [541, 18, 502, 0, 18, 26, 0, 0, 0, 0, 52, 0, 433]);
 }
 
-/// The records of two traces, one after the other, are one replay; those behind a record that is refused are not
-/// looked at.
+/// The records of two traces, one after the other, are one replay, and their counts add up; those behind a record
+/// that is refused are not looked at.
 #[test]
 fn one_after_another() {
     let (fixture, records, states) = for_damage();
@@ -475,17 +492,20 @@ fn one_after_another() {
         let [first, second] = [first, second].map(|part| trace(&fixture.header, part));
         let answer = replay(fixture.lent(&first), &mut target);
         assert_eq!((answer.code, answer.index), (0, split as u64));
-        assert!(target == states[split], "{}", split);
+        assert_eq!(answer.moved, states[split].moved, "{split}");
+        assert!(target == states[split].target, "{}", split);
         let rest = replay(fixture.lent(&second), &mut target);
         assert_eq!(rest.index, (records.len() - split) as u64);
-        assert!(&target == states.last().unwrap(), "{}", split);
+        let whole = states.last().unwrap();
+        assert_eq!(sum(answer.moved, rest.moved), whole.moved, "{split}");
+        assert!(target == whole.target, "{}", split);
     }
     let mut refused = records.clone();
     refused[3].side[0] = 12;
     refused[4].kind = 9;
-    let (answer, target) = fixture.replay(&trace(&fixture.header, &refused));
-    assert_eq!((answer.code, answer.index), (2, 3));
-    assert!(target == states[3]);
+    let (code, index, state) = fixture.replay(&trace(&fixture.header, &refused));
+    assert_eq!((code, index), (2, 3));
+    assert!(state == states[3]);
 }
 
 /// The order of the checks before the first record, and of those of a record, with all faults at once.
@@ -500,10 +520,10 @@ fn order() {
         map: fixture.map.clone(),
     };
     let code_of = |fixture: &Fixture, bytes: &[u8]| {
-        let (answer, target) = fixture.replay(bytes);
-        assert_eq!(answer.index, 0);
-        assert!(target == fixture.target);
-        answer.code
+        let (code, index, state) = fixture.replay(bytes);
+        assert_eq!((index, state.moved), (0, [0; 4]));
+        assert!(state.target == fixture.target);
+        code
     };
     assert_eq!(code_of(&short, &whole), 4);
     assert_eq!(code_of(&short, &whole[..13]), 4);
@@ -524,7 +544,7 @@ fn order() {
         assert_eq!(code_of(&fixture, &whole), 4);
         if plane == 6 {
             fixture.map = None;
-            assert_eq!(fixture.replay(&whole).0.code, 0);
+            assert_eq!(fixture.replay(&whole).0, 0);
         }
     }
 
@@ -536,10 +556,10 @@ fn order() {
     let code_of = |record: &Record, last: u8, len: usize| {
         let mut bytes = trace(&high.header, &[records[0], *record]);
         bytes[13 + 43] = last;
-        let (answer, target) = high.replay(&bytes[..13 + 22 + len]);
-        assert_eq!(answer.index, 1);
-        assert!(target == states[1]);
-        answer.code
+        let (code, index, state) = high.replay(&bytes[..13 + 22 + len]);
+        assert_eq!(index, 1);
+        assert!(state == states[1]);
+        code
     };
     assert_eq!(code_of(&record, 0, 22), 6);
     record.poc[0] = 32768;

@@ -28,20 +28,14 @@ returns c = let t = c .before in refusal _ _ _ _ (t .before .block-code .ensures
 accepted : (c : tie.Else1) → firstOf (blockChecks (c .before .before .args .block)) ≡ 0
 accepted c = sym (c .before .block-code .ensures) ∙ c .if1 .left
 
-clipped-place-requires : tie.Need-clipped-place-requires
-clipped-place-requires c κs = allowed-block _ (accepted c)
-
 clip-mv-requires : tie.Need-clip-mv-requires
-clip-mv-requires c κs = allowed-block _ (accepted (c .before))
+clip-mv-requires c κs = allowed-block _ (accepted c)
 
 moved-mv-requires : tie.Need-moved-mv-requires
-moved-mv-requires c κs =
-    let g = c .before in
-    let a = allowed-block _ (accepted (g .before)) in
-    (a .0, (a .1, g .clipped-place .ensures))
+moved-mv-requires c κs = allowed-block _ (accepted (c .before))
 
 returns-2 : tie.Need-returns-2
-returns-2 c = done _ _ _ _ (accepted (c .before .before .before)) (c .before .clip-mv .ensures) (c .moved-mv .ensures)
+returns-2 c = done _ _ _ _ (accepted (c .before .before)) (c .before .clip-mv .ensures) (c .moved-mv .ensures)
 
 pub mv-clip-spec : {M : Type 1} → statement M
-mv-clip-spec = tie.close (tie.spec (λ c κs. search needs) (λ c κs. search needs) returns clipped-place-requires clip-mv-requires moved-mv-requires returns-2)
+mv-clip-spec = tie.close (tie.spec (λ c κs. search needs) (λ c κs. search needs) returns clip-mv-requires moved-mv-requires returns-2)

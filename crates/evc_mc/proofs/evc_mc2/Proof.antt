@@ -67,14 +67,8 @@ predict-lists-requires c κs =
     ((k .before .clipped-place .ensures, k .clipped-place2 .ensures), accepted f)
 
 -- the blocks are predicted, and the reports are left
-abbrev clipped : tie.After-slice-known4 → tie.After-clipped-place2
-clipped c = c .before .before .before .before .before .before .before .before .before .before .before
-
-list-moved-requires : tie.Need-list-moved-requires
-list-moved-requires c κs = let k = clipped c in (good (k .before .before), k .before .clipped-place .ensures)
-
-list-moved-requires-2 : tie.Need-list-moved-requires-2
-list-moved-requires-2 c κs = let k = clipped (c .before) in (good (k .before .before), k .clipped-place2 .ensures)
+checked : (c : tie.After-slice-known4) → firstOf (blockChecks (start (c .before .before .before .before .before .before .before .before .before .before .before .before .before .before) .args .block)) ≡ 0
+checked c = good (c .before .before .before .before .before .before .before .before .before .before .before .before .before)
 
 returns-3 : tie.Need-returns-3
 returns-3 c =
@@ -102,8 +96,8 @@ evc-mc2-spec =
     (λ c. search needs)
     returns-2
     predict-lists-requires
-    list-moved-requires
-    list-moved-requires-2
+    (λ c κs. checked c)
+    (λ c κs. checked (c .before))
     (λ c. search needs)
     (λ c. search needs)
     returns-3)

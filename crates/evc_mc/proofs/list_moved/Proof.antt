@@ -25,10 +25,7 @@ returns : tie.Need-returns
 returns c = not-used _ _ _ (c .before .if1 .taken) (c .nothing-moved .ensures)
 
 moved-mv-requires : tie.Need-moved-mv-requires
-moved-mv-requires c κs =
-    let s = c .before .before in
-    let a = allowed-block _ (s .pre .0) in
-    (a .0, (a .1, s .pre .1))
+moved-mv-requires c κs = allowed-block _ (c .before .before .pre)
 
 returns-2 : tie.Need-returns-2
 returns-2 c = used _ _ _ (c .before .if1 .left) (c .moved-mv .ensures)

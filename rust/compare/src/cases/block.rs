@@ -7,7 +7,7 @@ use crate::lent::{old_samples, rust_plane, PlaneOf, Slot};
 use crate::numbers::{block, count, one_in, seed, vector, Length};
 use crate::numbers::{smaller_blocks, smaller_number, smaller_spare, smaller_vectors, spare};
 use oracle::cases::BlockCall;
-use oracle::model::{self, Block, PRED_LEN};
+use oracle::model::{self, Block, Predicted, PRED_LEN};
 use oracle::Picture;
 
 /// The three planes of a picture.
@@ -94,10 +94,14 @@ impl Blocks {
         })
     }
 
-    /// The number and both blocks that the model gives.
-    fn compare(&self, calls: &dyn Calls, lent: &mut Lent) -> Result<(u32, [Vec<u16>; 2]), String> {
+    /// The number, the reports and both blocks that the model gives.
+    fn compare(
+        &self,
+        calls: &dyn Calls,
+        lent: &mut Lent,
+    ) -> Result<(Predicted, [Vec<u16>; 2]), String> {
         let old = self.old();
-        let mut last = (0, old.clone());
+        let mut last = None;
         for press in PRESSES {
             let planes = lend(&lent.planes, press, self.which(), &self.lengths);
             let lists = self.call.lists(planes);
@@ -105,14 +109,14 @@ impl Blocks {
             let pred0 = pred0.lend_mut(press, &old[0]);
             let pred1 = pred1.lend_mut(press, &old[1]);
             let [mut want0, mut want1] = old.clone();
-            let code = model::block(&self.call.b, &lists, &mut want0, &mut want1);
+            let answer = model::block(&self.call.b, &lists, &mut want0, &mut want1);
             let got = calls.mc2(&self.call.b, &lists, pred0, pred1);
-            assert_same("code", got, code)?;
+            assert_same("code and reports", got, answer)?;
             assert_all_same("first block", pred0, &want0)?;
             assert_all_same("second block", pred1, &want1)?;
-            last = (code, [want0, want1]);
+            last = Some((answer, [want0, want1]));
         }
-        Ok(last)
+        Ok(last.unwrap())
     }
 }
 
@@ -191,7 +195,7 @@ impl Case for Blocks {
         if let Some((list, plane, (index, old))) = put {
             lent.planes[which[list]][plane].put(index, old);
         }
-        let (code, want) = compared?;
+        let (Predicted { code, moved }, want) = compared?;
         let in_domain = code == 0 && self.call.in_domain();
         if in_domain {
             // a list not in use has the other's picture, as a decoy
@@ -205,6 +209,8 @@ impl Case for Blocks {
             self.call.by_the_rust(pictures, &mut pred0, &mut pred1);
             assert_all_same("the Rust's first block and the model's", &pred0, &want[0])?;
             assert_all_same("the Rust's second block and the model's", &pred1, &want[1])?;
+            let changed = self.call.moved_by_the_rust();
+            assert_same("what the Rust changed and the reports", changed, moved)?;
         }
         Ok(Seen { code, in_domain })
     }

@@ -2,6 +2,7 @@
 
 use super::*;
 use crate::numbers::{block, picture, smaller_blocks, smaller_vectors, vector, wild};
+use oracle::cases::moved_between;
 use oracle::model::{self, Block, Mv};
 
 #[derive(Clone, Debug)]
@@ -34,14 +35,17 @@ impl Case for Clipping {
 
     fn run(&self, calls: &dyn Calls, _: &mut ()) -> Outcome {
         let Clipping { b, mv } = self;
-        let (code, want) = model::clip(b, *mv);
-        assert_same("code and vector", calls.mv_clip(b, *mv), (code, want))?;
+        let (code, want, moved) = model::clip(b, *mv);
+        let got = calls.mv_clip(b, *mv);
+        assert_same("code, vector and reports", got, (code, want, moved))?;
         let in_domain = code == 0 && b.in_domain(*mv);
         if in_domain {
             let [[pic_w, pic_h], [x, y], [w, h]] =
                 [b.pic, b.place, b.side].map(|pair| pair.map(|n| n as i16));
             let rust = oracle::mv_clip(x, y, pic_w, pic_h, w, h, *mv);
             assert_same("the Rust's vector and the model's", rust, want)?;
+            let changed = moved_between(*mv, rust);
+            assert_same("what the Rust changed and the reports", changed, moved)?;
         }
         Ok(Seen { code, in_domain })
     }

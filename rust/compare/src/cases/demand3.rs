@@ -1,8 +1,9 @@
-//! Demand 3: the general filter over the prolonged picture, mirrors and exchange, by `evc_pad` and `evc_mc2`.
+//! Demand 3: the general filter over the prolonged picture, mirrors and exchange, by `evc_pad` and `evc_mc2`; what
+//! becomes of document 02's reports, W2, under these.
 
 use super::padded::{all_same, Lent, PaddedCall, Predicted, FORMS};
 use super::*;
-use oracle::cases::{random_block, BlockCall};
+use oracle::cases::{other_side, random_block, BlockCall};
 use oracle::model::{self, Block};
 
 #[derive(Clone, Debug)]
@@ -47,16 +48,19 @@ impl Case for Demand3 {
         }
         lent.hold(case, FORMS.len(), calls);
         let which = case.which();
-        let straight = lent.predict(calls, &case.call, which, 0, case)?;
+        let (straight, moved) = lent.predict(calls, &case.call, which, 0, case)?;
         let general = model::general_block(&case.call.b, &lent.lists(case));
         all_same("block by the general filter", &straight, &general)?;
 
         for d in 0..2 {
             if let Some(call) = mirrored_call(&case.call, d) {
-                let turned = lent.predict(calls, &call, which, 1 + d, case)?;
+                let (turned, reports) = lent.predict(calls, &call, which, 1 + d, case)?;
                 let want = mirrored(&case.call.b, d, &straight);
                 let what = ["mirrored left to right", "mirrored top to bottom"][d];
                 all_same(what, &turned, &want)?;
+                let mut want = moved;
+                want.iter_mut().for_each(|m| m[d] = other_side(m[d]));
+                assert_same(&format!("{what}, reports"), reports, want)?;
             }
         }
 
@@ -64,8 +68,9 @@ impl Case for Demand3 {
         call.used.reverse();
         call.mv.reverse();
         call.poc.reverse();
-        let exchanged = lent.predict(calls, &call, [which[1], which[0]], 0, case)?;
+        let (exchanged, reports) = lent.predict(calls, &call, [which[1], which[0]], 0, case)?;
         all_same("exchanged", &exchanged, &straight)?;
+        assert_same("exchanged, reports", reports, [moved[1], moved[0]])?;
         Ok(case.seen())
     }
 

@@ -1,10 +1,11 @@
-//! Document 02, W6: when the split into quarters and clipping are invisible, by `evc_pad` and `evc_mc2`.
+//! Document 02, W6: when the split into quarters and clipping are invisible, by `evc_pad` and `evc_mc2`; 'need no
+//! clipping' is that W2's reports have nothing moved.
 
 use super::padded::{Lent, PaddedCall, Predicted};
 use super::*;
 use crate::numbers::one_in;
 use oracle::cases::{random_block, sides, BlockCall};
-use oracle::model::{self, Block};
+use oracle::model::{self, Block, NOTHING_MOVED};
 
 /// W6 claims it "for sides of at most 32"; a test claims more, and that is noticed.
 pub type Invisible = UpTo<32>;
@@ -50,17 +51,22 @@ impl<const SIDE: u32> Case for UpTo<SIDE> {
         }
         lent.hold(case, 1, calls);
         let b = &case.call.b;
-        let whole = lent.predict(calls, &case.call, case.which(), 0, case)?;
+        let (whole, moved) = lent.predict(calls, &case.call, case.which(), 0, case)?;
         let lists = lent.lists(case);
         let is_small = b.side.iter().all(|side| *side <= SIDE);
-        let is_claimed = [0, 1, 2].map(|k| is_small || b.is_clipping_hidden(&lists, k));
+        let is_unmoved = moved == [NOTHING_MOVED; 2];
+        let is_claimed =
+            [0, 1, 2].map(|k| is_small || is_unmoved || b.is_clipping_hidden(&lists, k));
         let exact = model::exact_block(b, &lists);
         for k in (0..3).filter(|k| is_claimed[*k]) {
             assert_all_same(&format!("unclipped, plane {k}"), &whole[k], &exact[k])?;
         }
         for (n, b) in b.quarters().into_iter().flatten().enumerate() {
             let call = BlockCall { b, ..case.call };
-            let quarter = lent.predict(calls, &call, case.which(), 0, case)?;
+            let (quarter, moved) = lent.predict(calls, &call, case.which(), 0, case)?;
+            if is_unmoved {
+                assert_same(&format!("quarter {n}, reports"), moved, [NOTHING_MOVED; 2])?;
+            }
             for k in (0..3).filter(|k| is_claimed[*k]) {
                 let want = part(&case.call.b, n, k, &whole);
                 assert_all_same(&format!("quarter {n}, plane {k}"), &quarter[k], &want)?;
@@ -104,7 +110,10 @@ mod tests {
         let planes = [0, 1, 2].map(|k| &planes[k][..]);
         let lists = call.lists([planes; 2]);
         let [mut pred0, mut pred1] = [(); 2].map(|_| vec![7; PRED_LEN]);
-        assert_eq!(Archive.mc2(&b, &lists, &mut pred0, &mut pred1), 0);
+        let answer = Archive.mc2(&b, &lists, &mut pred0, &mut pred1);
+        // a report is a component that is moved, by however little
+        let moved = [0, 1].map(|d| b.moved_by(mv, d) > 0);
+        assert_eq!((answer.code, answer.moved[0].map(|n| n > 0)), (0, moved));
         [predicted(&b, &pred0), model::exact_block(&b, &lists)]
     }
 
@@ -139,7 +148,7 @@ mod tests {
                         assert_eq!(whole[1..], exact[1..], "chroma: {b:?} {mv:?}");
                         let shows = whole[0] != exact[0];
                         if shows {
-                            shown.insert((d, is_high, side, b.moved(mv, d)));
+                            shown.insert((d, is_high, side, b.moved_by(mv, d)));
                         }
                         let quarters = b.quarters().into_iter().flatten().enumerate();
                         let parts = quarters.map(|(n, quarter)| {

@@ -7,7 +7,7 @@ use crate::lent::{old_samples, Border, PlaneOf, Samples, Slot};
 use crate::numbers::{one_in, seed, vector, Length};
 use crate::numbers::{smaller_blocks, smaller_number, smaller_vectors};
 use oracle::cases::BlockCall;
-use oracle::model::{self, Block, List, OFFSETS, PRED_LEN};
+use oracle::model::{self, Block, List, Moved, OFFSETS, PRED_LEN};
 
 #[derive(Clone, Debug)]
 pub struct PaddedCall {
@@ -60,8 +60,8 @@ impl Lent {
         }))
     }
 
-    /// The predicted samples of a call, which has to be accepted; `which` says which picture each list
-    /// has, in this form.
+    /// The predicted samples of a call, which has to be accepted, and its reports; `which` says which
+    /// picture each list has, in this form.
     pub fn predict(
         &mut self,
         calls: &dyn Calls,
@@ -69,7 +69,7 @@ impl Lent {
         which: [usize; 2],
         form: usize,
         case: &PaddedCall,
-    ) -> Result<Predicted, String> {
+    ) -> Result<(Predicted, [Moved; 2]), String> {
         let planes = [0, 1].map(|list| {
             let slots = &self.pictures[which[list]][form];
             let length = if call.used[list] {
@@ -83,9 +83,9 @@ impl Lent {
         let [pred0, pred1] = &mut self.preds;
         let pred0 = pred0.lend_mut(case.press, &old);
         let pred1 = pred1.lend_mut(case.press, &old);
-        let code = calls.mc2(&call.b, &call.lists(planes), pred0, pred1);
-        assert_same("code", code, 0)?;
-        Ok(predicted(&call.b, pred0))
+        let answer = calls.mc2(&call.b, &call.lists(planes), pred0, pred1);
+        assert_same("code", answer.code, 0)?;
+        Ok((predicted(&call.b, pred0), answer.moved))
     }
 }
 

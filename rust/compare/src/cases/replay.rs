@@ -11,7 +11,7 @@ use crate::numbers::{count, one_in, seed, smaller_number, smaller_spare, spare, 
 use crate::numbers::{wild, Length};
 use oracle::cases::{random_block, record, trace, BlockCall, ByTheRust};
 use oracle::model::trace::{self, Header, OneByOne, Record, Replay, HEADER_LEN, RECORD_LEN};
-use oracle::model::{self, Block, Collocated, List, Mv, OnePlane, Pocs};
+use oracle::model::{self, Block, Collocated, List, Mv, OnePlane, Pocs, Predicted};
 use oracle::Picture;
 
 /// What becomes of the bytes of a trace.
@@ -146,14 +146,14 @@ impl Lent {
 }
 
 /// The archive's own calls.
-struct Own<'a>(&'a dyn Calls);
+pub struct Own<'a>(pub &'a dyn Calls);
 
 impl OneByOne for Own<'_> {
     fn direct(&mut self, b: &Block, pocs: Pocs, col: Collocated) -> (u32, [Mv; 2]) {
         self.0.get_mv_dir(b, pocs, col)
     }
 
-    fn block(&mut self, b: &Block, lists: &[List; 2], pred: &mut [Vec<u16>; 2]) -> u32 {
+    fn block(&mut self, b: &Block, lists: &[List; 2], pred: &mut [Vec<u16>; 2]) -> Predicted {
         let [pred0, pred1] = pred;
         self.0.mc2(b, lists, pred0, pred1)
     }
@@ -263,7 +263,7 @@ impl Replays {
             let u = u.lend_mut(press, &old[1]);
             let v = v.lend_mut(press, &old[2]);
             let got = calls.replay(given, [&mut *y, &mut *u, &mut *v]);
-            assert_same("code and index", got, answer)?;
+            assert_same("code, index and counts", got, answer)?;
             for (k, plane) in [y, u, v].into_iter().enumerate() {
                 assert_all_same(&format!("target, plane {k}"), plane, &want[k])?;
             }
@@ -273,8 +273,8 @@ impl Replays {
     }
 
     /// Whether the Rust was asked for every finished record.
-    fn compare_rust(&self, lent: &mut Lent, index: u64, want: &Target) -> Result<bool, String> {
-        let finished = HEADER_LEN + RECORD_LEN * index as usize;
+    fn compare_rust(&self, lent: &mut Lent, all: Replay, want: &Target) -> Result<bool, String> {
+        let finished = HEADER_LEN + RECORD_LEN * all.index as usize;
         let bytes = &self.bytes()[..finished];
         let pic = Header::read(bytes).pic.map(u32::from);
         let [first, second] = [0, 1].map(|list| lent.rust(self, pic, list));
@@ -285,8 +285,10 @@ impl Replays {
         let mut rust = ByTheRust::new([&first, &second]);
         let mut target = self.old();
         let answer = trace::replay_by(&mut rust, given, &mut target);
-        assert_same("the Rust's records", answer, Replay { code: 0, index })?;
+        let records = (answer.code, answer.index);
+        assert_same("the Rust's records", records, (0, all.index))?;
         if !rust.is_beyond {
+            assert_same("what the Rust changed", answer.moved, all.moved)?;
             assert_target("the Rust's target and the model's", &target, want)?;
         }
         Ok(!rust.is_beyond)
@@ -418,9 +420,12 @@ impl Case for Replays {
         if let Some((list, plane, (index, old))) = put {
             lent.given.planes[self.which()[list]][plane].put(index, old);
         }
-        let (Replay { code, index }, want) = compared?;
-        let in_domain = index == 0 || self.compare_rust(lent, index, &want)?;
-        Ok(Seen { code, in_domain })
+        let (answer, want) = compared?;
+        let in_domain = answer.index == 0 || self.compare_rust(lent, answer, &want)?;
+        Ok(Seen {
+            code: answer.code,
+            in_domain,
+        })
     }
 
     fn smaller(&self) -> Vec<Self> {

@@ -13,14 +13,17 @@ SIZE(EvcBlock, 24, 4); AT(EvcBlock, pic_h, 4); AT(EvcBlock, x, 8); AT(EvcBlock, 
 AT(EvcBlock, w, 16); AT(EvcBlock, h, 20);
 SIZE(EvcList, 12, 4); AT(EvcList, used, 0); AT(EvcList, mv, 2); AT(EvcList, poc, 8);
 SIZE(EvcAvail, 8, 4); AT(EvcAvail, avail, 4);
-SIZE(EvcClipped, 8, 4); AT(EvcClipped, mv, 4);
+SIZE(EvcMoved, 2, 1); AT(EvcMoved, x, 0); AT(EvcMoved, y, 1);
+SIZE(EvcClipped, 12, 4); AT(EvcClipped, mv, 4); AT(EvcClipped, moved, 8);
+SIZE(EvcPredicted, 8, 4); AT(EvcPredicted, code, 0); AT(EvcPredicted, moved0, 4); AT(EvcPredicted, moved1, 6);
 SIZE(EvcDirect, 12, 4); AT(EvcDirect, mv0, 4); AT(EvcDirect, mv1, 8);
 SIZE(EvcCandidates, 20, 2); AT(EvcCandidates, up, 4); AT(EvcCandidates, up_right, 8);
 AT(EvcCandidates, collocated, 12); AT(EvcCandidates, refi, 16);
 SIZE(EvcTraceRecord, 22, 2); AT(EvcTraceRecord, x, 0); AT(EvcTraceRecord, y, 2); AT(EvcTraceRecord, w, 4);
 AT(EvcTraceRecord, h, 6); AT(EvcTraceRecord, kind, 8); AT(EvcTraceRecord, mv0, 10); AT(EvcTraceRecord, mv1, 14);
 AT(EvcTraceRecord, poc0, 18); AT(EvcTraceRecord, poc1, 20);
-SIZE(EvcReplay, 16, 8); AT(EvcReplay, code, 0); AT(EvcReplay, index, 8);
+SIZE(EvcReplay, 48, 8); AT(EvcReplay, code, 0); AT(EvcReplay, index, 8); AT(EvcReplay, across_low, 16);
+AT(EvcReplay, across_high, 24); AT(EvcReplay, down_low, 32); AT(EvcReplay, down_high, 40);
 SIZE(EvcCamera, 24, 8); AT(EvcCamera, code, 0); AT(EvcCamera, kind, 4); AT(EvcCamera, x, 8); AT(EvcCamera, y, 16);
 
 static int failed;
@@ -186,7 +189,7 @@ static void predicted(void) {
     }
     for (size_t i = 0; i < sizeof of / sizeof *of; i++) {
         const EvcBlock b = {8, 8, of[i][0], of[i][1], of[i][2], of[i][3]};
-        HOLDS(evc_mc2(b, list0, PLANES0, unused, EMPTY, pred0, CU, pred1, CU) == EVC_OK);
+        HOLDS(evc_mc2(b, list0, PLANES0, unused, EMPTY, pred0, CU, pred1, CU).code == EVC_OK);
         for (unsigned c = 0; c < 3; c++) {
             const EvcPlaneLayout p = evc_plane_layout(c > 0, 8, 8);
             const uint32_t half = c > 0 ? 2 : 1;
@@ -240,8 +243,18 @@ static void mixed(uint16_t *plane, size_t len, size_t by) {
     for (size_t k = 0; k < len; k++) plane[k] = (uint16_t)(k * by % (EVC_MAX_SAMPLE + 1));
 }
 
+/* Whether a replay has counted these vectors, of one record, and no others. */
+static bool counts(EvcReplay r, EvcMoved moved0, EvcMoved moved1) {
+    const EvcMoved both[] = {moved0, moved1};
+    for (size_t k = 0; k < 2; k++) {
+        r.across_low -= both[k].x == EVC_MOVED_LOW, r.across_high -= both[k].x == EVC_MOVED_HIGH;
+        r.down_low -= both[k].y == EVC_MOVED_LOW, r.down_high -= both[k].y == EVC_MOVED_HIGH;
+    }
+    return r.across_low == 0 && r.across_high == 0 && r.down_low == 0 && r.down_high == 0;
+}
+
 /* What evc_mc2 and evc_get_mv_dir are given becomes a record. Replay gives their number, and where they are done the
-   picture that evc_cu_put makes. */
+   picture that evc_cu_put makes and the counts of what evc_mc2 reports. */
 static void records(void) {
     const EvcBlock of[] = {
         {8, 8, 0, 0, 4, 4}, {8, 8, 4, 4, 4, 4}, {8, 8, 4, 0, 4, 8}, {8, 8, 0, 4, 8, 4}, {8, 8, 0, 0, 8, 8},
@@ -251,24 +264,25 @@ static void records(void) {
         {8, 8, UINT32_MAX - 3, UINT32_MAX - 3, 4, 4},
     };
     const uint32_t pocs[] = {0, 8, EVC_MAX_POC, EVC_MAX_POC + 1, 65535, 65536 + 8, UINT32_MAX - 7};
-    const int16_t col[16] = {8, -16, 0, 0, 4, 3, 0, 0, -9, 1, 0, 0, 2, 5, 0, 0};
+    const int16_t col[16] = {8, -16, 0, 0, 4, 3000, 0, 0, -9, 1, 0, 0, -3000, 5, 0, 0};
     uint8_t trace[EVC_TRACE_HEADER_LEN + EVC_TRACE_RECORD_LEN], *const record = trace + EVC_TRACE_HEADER_LEN;
-    size_t done = 0, bad_block = 0, bad_poc = 0;
+    size_t done = 0, moved = 0, bad_block = 0, bad_poc = 0;
     mixed(y0, LUMA, 37), mixed(u0, CHROMA, 53), mixed(v0, CHROMA, 71);
     mixed(y1, LUMA, 89), mixed(u1, CHROMA, 107), mixed(v1, CHROMA, 131);
     HOLDS(evc_trace_write_header(8, 8, 4, 0, trace, sizeof trace) == EVC_OK);
     EACH(i, of) EACH(k0, pocs) EACH(k1, pocs) for (unsigned used = 0; used < 5; used++) {
         const bool direct = used == 4;
-        EvcList list0 = {used & 1 || direct, {5, -2}, pocs[k0]}, list1 = {used & 2 || direct, {-3, 6}, pocs[k1]};
+        EvcList list0 = {used & 1 || direct, {-500, -2}, pocs[k0]}, list1 = {used & 2 || direct, {-3, 600}, pocs[k1]};
         EvcTraceRecord kept = evc_trace_record(of[i], list0, list1);
-        uint32_t code = EVC_OK;
+        EvcPredicted p = {EVC_OK, {EVC_NOT_MOVED, EVC_NOT_MOVED}, {EVC_NOT_MOVED, EVC_NOT_MOVED}};
         if (direct) {
             const EvcDirect mv = evc_get_mv_dir(of[i], 4, pocs[k0], pocs[k1], 0, true, col, 16);
             kept = evc_trace_direct(of[i], pocs[k0], pocs[k1]);
-            code = mv.code;
+            p.code = mv.code;
             list0.mv = mv.mv0, list1.mv = mv.mv1;
         }
-        if (code == EVC_OK) code = evc_mc2(of[i], list0, PLANES0, list1, PLANES1, pred0, CU, pred1, CU);
+        if (p.code == EVC_OK) p = evc_mc2(of[i], list0, PLANES0, list1, PLANES1, pred0, CU, pred1, CU);
+        const uint32_t code = p.code;
         const uint32_t written = evc_trace_write_record(8, 8, kept, record, EVC_TRACE_RECORD_LEN);
         if (used == 0) {
             HOLDS(kept.kind == 255 && written == EVC_BAD_RECORD && (code == EVC_BAD_LIST || code == EVC_BAD_BLOCK));
@@ -279,10 +293,12 @@ static void records(void) {
         const EvcReplay r = evc_trace_replay(trace, sizeof trace, PLANES0, PLANES1, true, col, 16,
                                              y, LUMA, u, CHROMA, v, CHROMA);
         HOLDS(written == EVC_OK && r.code == code && equal());
+        HOLDS(counts(r, p.moved0, p.moved1));
         HOLDS(kept.kind == (direct ? EVC_TRACE_DIRECT : used - 1));
-        done += code == EVC_OK, bad_block += code == EVC_BAD_BLOCK, bad_poc += code == EVC_BAD_POC;
+        done += code == EVC_OK, moved += direct && evc_is_moved(p.moved0) && evc_is_moved(p.moved1);
+        bad_block += code == EVC_BAD_BLOCK, bad_poc += code == EVC_BAD_POC;
     }
-    HOLDS(done > 0 && bad_block > 0 && bad_poc > 0);
+    HOLDS(done > 0 && moved > 0 && bad_block > 0 && bad_poc > 0);
 
     /* A count of the header that is too large is refused with a direct record only. */
     const EvcList list0 = {true, {5, -2}, 0}, unused = {false, {0, 0}, 0};
@@ -294,6 +310,70 @@ static void records(void) {
                                              y, LUMA, u, CHROMA, v, CHROMA);
         HOLDS(r.code == (i == 0 ? EVC_OK : EVC_BAD_POC));
     }
+}
+
+static bool reports(EvcMoved moved, uint8_t x, uint8_t y) {
+    return moved.x == x && moved.y == y && evc_is_moved(moved) == (x != EVC_NOT_MOVED || y != EVC_NOT_MOVED);
+}
+
+/* At a limit nothing is moved, a quarter sample past it the component is, to the limit's side. */
+static void moved_vectors(void) {
+    const struct { uint32_t place; int16_t given, clipped; uint8_t side; } of[] = {
+        {16, -320, -320, EVC_NOT_MOVED}, {16, -321, -320, EVC_MOVED_LOW},  {16, INT16_MIN, -320, EVC_MOVED_LOW},
+        {48, 256, 256, EVC_NOT_MOVED},   {48, 257, 256, EVC_MOVED_HIGH},   {48, INT16_MAX, 256, EVC_MOVED_HIGH},
+    };
+    EACH(i, of) {
+        const EvcBlock across = {64, 64, of[i].place, 0, 16, 16}, down = {64, 64, 0, of[i].place, 16, 16};
+        EvcClipped r = evc_mv_clip(across, (EvcMv){of[i].given, 7});
+        HOLDS(r.code == EVC_OK && r.mv.x == of[i].clipped && r.mv.y == 7 && reports(r.moved, of[i].side, 0));
+        r = evc_mv_clip(down, (EvcMv){7, of[i].given});
+        HOLDS(r.code == EVC_OK && r.mv.y == of[i].clipped && r.mv.x == 7 && reports(r.moved, 0, of[i].side));
+    }
+    const EvcClipped refused = evc_mv_clip((EvcBlock){64, 64, 2, 0, 16, 16}, (EvcMv){-2000, 2000});
+    HOLDS(refused.code == EVC_BAD_BLOCK && refused.mv.x == 0 && refused.mv.y == 0 && reports(refused.moved, 0, 0));
+
+    /* Each list in use has its own, where both give a prediction, where list 0 alone stands, and where one is used. */
+    const EvcBlock b = {8, 8, 4, 4, 4, 4};
+    const EvcList unused0 = {false, {-500, -500}, 0}, unused1 = {false, {500, 500}, 0};
+    const EvcList far0 = {true, {-500, 2}, 0}, far1 = {true, {500, -600}, 8}, at_far0 = {true, {-272, 2}, 0};
+    const EvcList late = {true, {500, -600}, EVC_MAX_POC + 1};
+    EvcPredicted p = evc_mc2(b, far0, PLANES0, far1, PLANES1, pred0, CU, pred1, CU);
+    HOLDS(p.code == EVC_OK && reports(p.moved0, EVC_MOVED_LOW, 0) && reports(p.moved1, EVC_MOVED_HIGH, EVC_MOVED_LOW));
+    p = evc_mc2(b, at_far0, PLANES0, far0, PLANES1, pred0, CU, pred1, CU);
+    HOLDS(p.code == EVC_OK && reports(p.moved0, 0, 0) && reports(p.moved1, EVC_MOVED_LOW, 0));
+    p = evc_mc2(b, far0, PLANES0, unused1, EMPTY, pred0, CU, pred1, CU);
+    HOLDS(p.code == EVC_OK && reports(p.moved0, EVC_MOVED_LOW, 0) && reports(p.moved1, 0, 0));
+    p = evc_mc2(b, unused0, EMPTY, far1, PLANES1, pred0, CU, pred1, CU);
+    HOLDS(p.code == EVC_OK && reports(p.moved0, 0, 0) && reports(p.moved1, EVC_MOVED_HIGH, EVC_MOVED_LOW));
+    p = evc_mc2(b, far0, PLANES0, late, PLANES1, pred0, CU, pred1, CU);
+    HOLDS(p.code == EVC_BAD_POC && reports(p.moved0, 0, 0) && reports(p.moved1, 0, 0));
+
+    /* A replay counts what is finished: all of it, as much as lies before a refused record, or nothing. */
+    enum { HEADER = EVC_TRACE_HEADER_LEN, RECORD = EVC_TRACE_RECORD_LEN };
+    const EvcTraceRecord of_trace[] = {
+        evc_trace_record(b, far0, far1), evc_trace_record(b, far0, far0), evc_trace_record(b, unused0, far1),
+        evc_trace_record(b, late, far1),
+    };
+    const uint64_t after[][4] = {{0, 0, 0, 0}, {1, 1, 1, 0}, {3, 1, 1, 0}, {3, 2, 2, 0}};
+    uint8_t trace[HEADER + 4 * RECORD];
+    HOLDS(evc_trace_write_header(8, 8, 4, 0, trace, HEADER) == EVC_OK);
+    EACH(i, of_trace)
+        HOLDS(evc_trace_write_record(8, 8, of_trace[i], trace + HEADER + i * RECORD, RECORD) == EVC_OK);
+    for (size_t n = 0; n <= 4; n++)
+        for (size_t more = 0; more < 2; more++) {
+            if (n == 4 && more == 1) continue;
+            const EvcReplay r = evc_trace_replay(trace, HEADER + n * RECORD + more, PLANES0, PLANES1, false, NULL, 0,
+                                                 y, LUMA, u, CHROMA, v, CHROMA);
+            const size_t finished = n < 3 ? n : 3;
+            const uint64_t *want = after[finished];
+            HOLDS(r.code == (n == 4 ? EVC_BAD_POC : more == 1 ? EVC_INCOMPLETE : EVC_OK) && r.index == finished);
+            HOLDS(r.across_low == want[0] && r.across_high == want[1]);
+            HOLDS(r.down_low == want[2] && r.down_high == want[3]);
+        }
+
+    const char *texts[] = {"not moved", "moved to the low side", "moved to the high side"};
+    EACH(i, texts) HOLDS(!strcmp(evc_moved_text((uint8_t)i), texts[i]));
+    HOLDS(!strcmp(evc_moved_text(3), evc_moved_text(UINT8_MAX)) && strcmp(evc_moved_text(3), texts[0]) != 0);
 }
 
 /* A header with any byte changed, whole or cut off, reads as replay takes it, and is written again as it was. */
@@ -354,7 +434,8 @@ int main(void) {
     EvcMv none = {0, 0};
     const EvcPlaneLayout luma = evc_plane_layout(false, 8, 8), chroma = evc_plane_layout(true, 8, 8);
 
-    messages(), planes(), units(), flags(), window(), predicted(), blocks(), kinds(), records(), headers();
+    messages(), planes(), units(), flags(), window(), predicted(), blocks(), kinds(), records(), moved_vectors();
+    headers();
 
     uint32_t words[4] = {0};
     HOLDS(evc_get_avail_inter(b, words, 4).avail == (EVC_AVAIL_UP | EVC_AVAIL_RI_UP));
@@ -378,9 +459,6 @@ int main(void) {
     HOLDS(evc_get_mv_dir(b, 4, 0, EVC_MAX_POC, 0, true, col, 16).code == EVC_OK);
     HOLDS(evc_get_mv_dir(b, 4, 0, EVC_MAX_POC + 1, 0, true, col, 16).code == EVC_BAD_POC);
 
-    EvcBlock wide = {64, 64, 16, 0, 16, 16};
-    HOLDS(evc_mv_clip(wide, (EvcMv){-320, 0}).mv.x == -320);
-    HOLDS(evc_mv_clip(wide, (EvcMv){-321, 0}).mv.x == -320);
     HOLDS(evc_mv_clip(bad, none).code == EVC_BAD_BLOCK);
 
     grey(y0, LUMA, 3), grey(u0, CHROMA, 3), grey(v0, CHROMA, 3);
@@ -400,27 +478,27 @@ int main(void) {
     HOLDS(evc_mc_plane(false, 8, 8, none, none, 4, 4, y0, LUMA, pred0, 15) == EVC_SHORT_BUFFER);
 
     EvcList list0 = {true, {5, 2}, 0}, list1 = {true, {5, 2}, 8}, unused = {false, {0, 0}, 0};
-    HOLDS(evc_mc2(b, list0, PLANES0, list1, PLANES1, pred0, CU, pred1, CU) == EVC_OK);
+    HOLDS(evc_mc2(b, list0, PLANES0, list1, PLANES1, pred0, CU, pred1, CU).code == EVC_OK);
     HOLDS(pred0[0] == 4 && pred1[EVC_CU_V] == 4 && pred0[16] == 9); /* the average of 3 and 4 */
     memcpy(kept, pred0, sizeof kept);
-    HOLDS(evc_mc2(b, unused, EMPTY, unused, EMPTY, pred0, CU, pred1, CU) == EVC_BAD_LIST);
-    uint32_t code = evc_mc2(b, list0, y0, LUMA, u0, CHROMA, v0, CHROMA - 1, unused, EMPTY, pred0, CU, pred1, CU);
-    HOLDS(code == EVC_SHORT_BUFFER);
-    HOLDS(evc_mc2(b, list0, PLANES0, unused, EMPTY, pred0, CU - 1, pred1, CU) == EVC_SHORT_BUFFER);
-    HOLDS(evc_mc2(b, list0, PLANES0, unused, EMPTY, pred0, CU, pred1, CU - 1) == EVC_SHORT_BUFFER);
+    HOLDS(evc_mc2(b, unused, EMPTY, unused, EMPTY, pred0, CU, pred1, CU).code == EVC_BAD_LIST);
+    EvcPredicted p = evc_mc2(b, list0, y0, LUMA, u0, CHROMA, v0, CHROMA - 1, unused, EMPTY, pred0, CU, pred1, CU);
+    HOLDS(p.code == EVC_SHORT_BUFFER);
+    HOLDS(evc_mc2(b, list0, PLANES0, unused, EMPTY, pred0, CU - 1, pred1, CU).code == EVC_SHORT_BUFFER);
+    HOLDS(evc_mc2(b, list0, PLANES0, unused, EMPTY, pred0, CU, pred1, CU - 1).code == EVC_SHORT_BUFFER);
     HOLDS(!memcmp(kept, pred0, sizeof kept));
-    HOLDS(evc_mc2(b, unused, EMPTY, list1, PLANES1, pred0, CU, pred1, CU) == EVC_OK);
+    HOLDS(evc_mc2(b, unused, EMPTY, list1, PLANES1, pred0, CU, pred1, CU).code == EVC_OK);
     HOLDS(pred0[EVC_CU_U] == 4);
 
     /* Two equal lists: the second gives nothing, but is in use. */
     EvcList equal1 = list0;
     grey(pred1, CU, 9);
-    HOLDS(evc_mc2(b, list0, PLANES0, equal1, PLANES1, pred0, CU, pred1, CU) == EVC_OK);
+    HOLDS(evc_mc2(b, list0, PLANES0, equal1, PLANES1, pred0, CU, pred1, CU).code == EVC_OK);
     HOLDS(pred0[0] == 3 && pred1[0] == 9);
-    code = evc_mc2(b, list0, PLANES0, equal1, y1, LUMA, u1, CHROMA, v1, CHROMA - 1, pred0, CU, pred1, CU);
-    HOLDS(code == EVC_SHORT_BUFFER);
+    p = evc_mc2(b, list0, PLANES0, equal1, y1, LUMA, u1, CHROMA, v1, CHROMA - 1, pred0, CU, pred1, CU);
+    HOLDS(p.code == EVC_SHORT_BUFFER);
     v1[evc_plane_at(&chroma, 2, 2)] = 1024;
-    HOLDS(evc_mc2(b, list0, PLANES0, equal1, PLANES1, pred0, CU, pred1, CU) == EVC_BAD_SAMPLE);
+    HOLDS(evc_mc2(b, list0, PLANES0, equal1, PLANES1, pred0, CU, pred1, CU).code == EVC_BAD_SAMPLE);
     v1[evc_plane_at(&chroma, 2, 2)] = 4;
 
     /* A trace of two records: list 0 as above, and direct in the upper left. */

@@ -14,6 +14,7 @@ static std::vector<uint16_t> plane(bool chroma, uint16_t grey) {
 
 int main() {
     static_assert(sizeof(EvcBlock) == 24 && sizeof(EvcList) == 12 && sizeof(EvcTraceRecord) == 22, "as in C");
+    static_assert(sizeof(EvcClipped) == 12 && sizeof(EvcPredicted) == 8 && sizeof(EvcReplay) == 48, "as in C");
     const EvcBlock block = {8, 8, 4, 4, 4, 4};
     const EvcMv none = {0, 0};
     const std::vector<uint32_t> words(evc_map_scu_len(8, 8), EVC_SCU_CODED);
@@ -44,21 +45,26 @@ int main() {
     const EvcMv far_left = {-321, 0};
     const EvcClipped clipped = evc_mv_clip(block, far_left);
     HOLDS(clipped.code == EVC_OK && clipped.mv.x == -272);
+    HOLDS(clipped.moved.x == EVC_MOVED_LOW && clipped.moved.y == EVC_NOT_MOVED && evc_is_moved(clipped.moved));
+    HOLDS(std::strcmp(evc_moved_text(clipped.moved.x), "moved to the low side") == 0);
 
     HOLDS(evc_mc_plane(false, 8, 8, none, none, 4, 4, y0.data(), y0.size(), pred0.data(), 16) == EVC_OK);
     HOLDS(pred0[0] == 200 && pred0[1] == 3);
 
-    const EvcList list0 = {true, {0, 0}, 0}, list1 = {true, {0, 0}, 8}, unused = {false, {0, 0}, 0};
-    HOLDS(evc_mc2(block, list0, y0.data(), y0.size(), u0.data(), u0.size(), u0.data(), u0.size(), list1, y1.data(),
-                  y1.size(), u1.data(), u1.size(), u1.data(), u1.size(), pred0.data(), pred0.size(), pred1.data(),
-                  pred1.size()) == EVC_OK);
+    const EvcList list0 = {true, {0, 0}, 0}, list1 = {true, {0, 300}, 8}, unused = {false, {0, 0}, 0};
+    const EvcPredicted predicted =
+        evc_mc2(block, list0, y0.data(), y0.size(), u0.data(), u0.size(), u0.data(), u0.size(), list1, y1.data(),
+                y1.size(), u1.data(), u1.size(), u1.data(), u1.size(), pred0.data(), pred0.size(), pred1.data(),
+                pred1.size());
+    HOLDS(predicted.code == EVC_OK && !evc_is_moved(predicted.moved0) && predicted.moved1.y == EVC_MOVED_HIGH);
     HOLDS(pred0[evc_cu_at(0, 4, 3, 3)] == 4 && pred1[evc_cu_at(2, 4, 0, 0)] == 4); // the average of 3 and 4
     evc_cu_put(block, pred1.data(), y.data(), u.data(), v.data());
     HOLDS(evc_is_block(block) && y[evc_plane_at(&luma, 7, 7)] == 4 && y[evc_plane_at(&luma, 3, 3)] == 9);
     y[evc_plane_at(&luma, 4, 4)] = 9;
-    const uint32_t refused = evc_mc2(block, unused, nullptr, 0, nullptr, 0, nullptr, 0, unused, nullptr, 0, nullptr, 0,
-                                     nullptr, 0, pred0.data(), pred0.size(), pred1.data(), pred1.size());
-    HOLDS(refused == EVC_BAD_LIST && std::strstr(evc_message(refused), "refers to no picture") != nullptr);
+    const EvcPredicted refused =
+        evc_mc2(block, unused, nullptr, 0, nullptr, 0, nullptr, 0, unused, nullptr, 0, nullptr, 0, nullptr, 0,
+                pred0.data(), pred0.size(), pred1.data(), pred1.size());
+    HOLDS(refused.code == EVC_BAD_LIST && std::strstr(evc_message(refused.code), "refers to no picture") != nullptr);
 
     std::vector<uint8_t> trace(EVC_TRACE_HEADER_LEN + EVC_TRACE_RECORD_LEN);
     const EvcTraceRecord record = evc_trace_record(block, unused, list1), in_direct = evc_trace_direct(block, 0, 65536);
@@ -73,6 +79,7 @@ int main() {
                          y1.data(), y1.size(), u1.data(), u1.size(), u1.data(), u1.size(), false, nullptr, 0,
                          y.data(), y.size(), u.data(), u.size(), v.data(), v.size());
     HOLDS(replay.code == EVC_OK && replay.index == 1 && y[evc_plane_at(&luma, 4, 4)] == 4);
+    HOLDS(replay.across_low == 0 && replay.across_high == 0 && replay.down_low == 0 && replay.down_high == 1);
 
     const EvcCamera camera = evc_camera_motion(8, 8, map.data(), map.size(), words.data(), words.size());
     HOLDS(camera.code == EVC_OK && camera.kind == EVC_CAMERA_MOVING && camera.x == 1.5 && camera.y == 0.4375);

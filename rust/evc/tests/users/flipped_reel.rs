@@ -2,6 +2,7 @@
 
 use crate::clip::{Clip, TAGS};
 use crate::json::Value;
+use crate::out_of_frame::runs;
 use crate::tool::{Folder, Run};
 use crate::trace::{self, Record};
 
@@ -155,8 +156,9 @@ fn the_lowest_vector() {
     folder.write("low.ipt", trace);
     let refs = |clip| format!("--ref0 {clip} --ref1 {clip} --frame1 1");
     let straight = folder.evc(&format!("replay low.ipt {}", refs("reel.y4m")));
-    assert_eq!(straight.done().behind("low.ipt: "), "4 records finished");
-    for way in WAYS {
+    let note = |counts| format!("4 records finished; {}", runs(counts));
+    assert_eq!(straight.done().behind("low.ipt: "), note([4, 1, 3, 1]));
+    for (way, counts) in WAYS.into_iter().zip([[1, 4, 3, 1], [4, 1, 1, 3]]) {
         folder
             .evc(&format!("flip reel.y4m --{way} --out f.y4m"))
             .done();
@@ -165,7 +167,9 @@ fn the_lowest_vector() {
             .done();
         let beside = format!("--beside evc-out/low/replayed.y4m --turn-back={way}");
         let run = folder.evc(&format!("replay f.ipt {} {beside}", refs("f.y4m")));
-        assert_eq!(run.done().behind("beside it: "), "equal sample for sample");
+        let run = run.done();
+        assert_eq!(run.behind("beside it: "), "equal sample for sample");
+        assert_eq!(run.behind("f.ipt: "), note(counts));
     }
 }
 

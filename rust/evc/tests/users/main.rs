@@ -7,6 +7,7 @@ mod ffmpeg;
 mod flipped_reel;
 mod interrupted;
 mod json;
+mod out_of_frame;
 mod output;
 mod predict;
 mod refused;

@@ -4,11 +4,12 @@ use crate::clip::{samples, Clip, TAGS};
 use crate::tool::{Folder, Run};
 
 /// The laws that predictions are held to.
-const LAWS: [&str; 6] = [
+const LAWS: [&str; 7] = [
     "general filter",
     "mirrored left to right",
     "mirrored top to bottom",
     "lists exchanged",
+    "reports of clipping",
     "unclipped place",
     "split into quarters",
 ];
@@ -27,7 +28,20 @@ fn all_agree(run: &Run) {
         run.behind("predicted and turned back: "),
         "equal sample for sample"
     );
-    assert_eq!(run.behind("; replay gives "), "the same picture");
+    // The scene has a second trace, of what is not shown.
+    let replays = run
+        .out
+        .lines()
+        .filter(|line| line.contains("; replay gives "));
+    let replays: Vec<_> = replays.collect();
+    let is_scene = run.out.contains("\nnot shown: ");
+    assert_eq!(replays.len(), 1 + usize::from(is_scene), "{run:?}");
+    for said in replays {
+        assert!(
+            said.ends_with(" gives the same picture and reports"),
+            "{said}"
+        );
+    }
     assert!(run.out.ends_with("; all agree\n"), "{run:?}");
 }
 

@@ -8,12 +8,25 @@ use crate::standins::frame::Frame;
 use std::cell::RefCell;
 use std::rc::Rc;
 
+/// A list in use has its picture at 0.
+fn refi_of(used: [bool; REFP_NUM]) -> [i8; REFP_NUM] {
+    used.map(|used| if used { 0 } else { REFI_INVALID })
+}
+
 /// `mv_clip` with list 0 alone in use.
 pub fn mv_clip(x: i16, y: i16, pic_w: i16, pic_h: i16, w: i16, h: i16, mv: [i16; 2]) -> [i16; 2] {
     let refi = [0, REFI_INVALID];
     let mut mv_t = [[0; MV_D]; REFP_NUM];
     super::mv_clip(x, y, pic_w, pic_h, w, h, &refi, &[mv, mv], &mut mv_t);
     mv_t[REFP_0]
+}
+
+/// `mv_clip` of both lists; the vector of one that is not in use is copied.
+pub fn mv_clip_of_lists(b: &Block, used: [bool; REFP_NUM], mv: [Mv; REFP_NUM]) -> [Mv; REFP_NUM] {
+    let [[pic_w, pic_h], [x, y], [w, h]] = [b.pic, b.place, b.side].map(|n| n.map(|n| n as i16));
+    let mut mv_t = [[0; MV_D]; REFP_NUM];
+    super::mv_clip(x, y, pic_w, pic_h, w, h, &refi_of(used), &mv, &mut mv_t);
+    mv_t
 }
 
 /// `evc_mc_l` or `evc_mc_c`, over a plane of the call's picture.
@@ -69,7 +82,7 @@ impl References {
     ) {
         let [[pic_w, pic_h], [x, y], [w, h]] =
             [b.pic, b.place, b.side].map(|n| n.map(|n| n as i16));
-        let refi = used.map(|used| if used { 0 } else { REFI_INVALID });
+        let refi = refi_of(used);
         super::evc_mc2(x, y, pic_w, pic_h, w, h, &refi, &mv, &self.0, pred0, pred1);
     }
 }
@@ -86,25 +99,19 @@ fn mv_clip_by_lists() {
         for &y in &inside {
             let mv = [x.mv, y.mv];
             let clipped = clip(x, y);
-            for (refi, want) in [
-                ([0, -1], [clipped, mv]),
-                ([-1, 0], [mv, clipped]),
-                ([0, 0], [clipped, clipped]),
-                ([-1, -1], [mv, mv]),
+            let b = Block {
+                pic: [x.pic, y.pic].map(|n| n as u32),
+                place: [x.place, y.place].map(|n| n as u32),
+                side: [x.side, y.side].map(|n| n as u32),
+            };
+            for (used, want) in [
+                ([true, false], [clipped, mv]),
+                ([false, true], [mv, clipped]),
+                ([true, true], [clipped, clipped]),
+                ([false, false], [mv, mv]),
             ] {
-                let mut mv_t = [[0; MV_D]; REFP_NUM];
-                super::mv_clip(
-                    x.place,
-                    y.place,
-                    x.pic,
-                    y.pic,
-                    x.side,
-                    y.side,
-                    &refi,
-                    &[mv, mv],
-                    &mut mv_t,
-                );
-                assert_eq!(mv_t, want, "{x:?} {y:?} {refi:?}");
+                let got = mv_clip_of_lists(&b, used, [mv, mv]);
+                assert_eq!(got, want, "{x:?} {y:?} {used:?}");
             }
         }
     }

@@ -1,4 +1,5 @@
-//! Document 02's W1, "Keep what the decoder asked for": the bytes of a trace, its writers, and replay.
+//! Document 02's W1, "Keep what the decoder asked for": the bytes of a trace, its writers, and replay, with the counts
+//! of W2.
 
 use super::*;
 
@@ -158,7 +159,7 @@ pub fn write_record(pic: [u32; 2], record: &Record, out: &mut [u8]) -> u32 {
 /// Who answers the two calls that a record can need.
 pub trait OneByOne {
     fn direct(&mut self, b: &Block, pocs: Pocs, col: Collocated) -> (u32, [Mv; 2]);
-    fn block(&mut self, b: &Block, lists: &[List; 2], pred: &mut [Vec<u16>; 2]) -> u32;
+    fn block(&mut self, b: &Block, lists: &[List; 2], pred: &mut [Vec<u16>; 2]) -> Predicted;
 }
 
 /// Document 01's calls.
@@ -169,7 +170,7 @@ impl OneByOne for ByTheDocument {
         direct(b, pocs, col)
     }
 
-    fn block(&mut self, b: &Block, lists: &[List; 2], pred: &mut [Vec<u16>; 2]) -> u32 {
+    fn block(&mut self, b: &Block, lists: &[List; 2], pred: &mut [Vec<u16>; 2]) -> Predicted {
         let [pred0, pred1] = pred;
         block(b, lists, pred0, pred1)
     }
@@ -180,6 +181,21 @@ impl OneByOne for ByTheDocument {
 pub struct Replay {
     pub code: u32,
     pub index: u64,
+    pub moved: Counts,
+}
+
+/// W2: "four counts (across low, high, down low, high, both lists) over the finished records, refused or
+/// not".
+pub type Counts = [u64; 4];
+
+/// Adds the reports of a record.
+pub fn count(counts: &mut Counts, moved: [Moved; 2]) {
+    for list in &moved {
+        let sides = [(0, LOW), (0, HIGH), (1, LOW), (1, HIGH)];
+        for (k, (d, side)) in sides.iter().enumerate() {
+            counts[k] += u64::from(list[*d] == *side);
+        }
+    }
 }
 
 /// All that replay is lent to be read.
@@ -198,7 +214,11 @@ pub fn replay(lent: Lent, target: &mut [Vec<u16>; 3]) -> Replay {
 
 /// "Replay must equal the records applied one after another".
 pub fn replay_by(calls: &mut dyn OneByOne, lent: Lent, target: &mut [Vec<u16>; 3]) -> Replay {
-    let refused = |code| Replay { code, index: 0 };
+    let refused = |code| Replay {
+        code,
+        index: 0,
+        moved: [0; 4],
+    };
     // "Replay refuses, in this order, 11 for an incomplete header, 10 for mark or version, 1 and 4 (every lent
     // plane and map)"
     if lent.trace.len() < HEADER_LEN {
@@ -217,16 +237,17 @@ pub fn replay_by(calls: &mut dyn OneByOne, lent: Lent, target: &mut [Vec<u16>; 3
     if is_any_short(pic, lent, target) {
         return refused(4);
     }
-    let mut index = 0;
+    let mut answer = refused(0);
     for bytes in records.chunks(RECORD_LEN) {
         // "then per record, with its index from 0 .. the target keeps the blocks before it"
-        let code = apply(calls, &header, bytes, lent, target);
+        let Predicted { code, moved } = apply(calls, &header, bytes, lent, target);
         if code != 0 {
-            return Replay { code, index };
+            return Replay { code, ..answer };
         }
-        index += 1;
+        answer.index += 1;
+        count(&mut answer.moved, moved);
     }
-    Replay { code: 0, index }
+    answer
 }
 
 /// "4 (every lent plane and map)", "from two lent references and the collocated motion map or none"
@@ -252,20 +273,24 @@ fn apply(
     bytes: &[u8],
     lent: Lent,
     target: &mut [Vec<u16>; 3],
-) -> u32 {
+) -> Predicted {
+    let refused = |code| Predicted {
+        code,
+        moved: [NOTHING_MOVED; 2],
+    };
     if bytes.len() < RECORD_LEN {
-        return 11;
+        return refused(11);
     }
     let record = Record::read(bytes);
     if record.is_refused() || bytes[RECORD_LEN - 1] != 0 {
-        return 12;
+        return refused(12);
     }
     let b = record.block(header.pic);
     let mut mv = record.mv;
     if record.kind == 3 {
         let (code, direct) = calls.direct(&b, record.pocs(header), lent.col);
         if code != 0 {
-            return code;
+            return refused(code);
         }
         mv = direct;
     }
@@ -276,11 +301,11 @@ fn apply(
         planes: lent.planes[k],
     });
     let mut pred = [(); 2].map(|_| vec![0; PRED_LEN]);
-    let code = calls.block(&b, &lists, &mut pred);
-    if code == 0 {
+    let predicted = calls.block(&b, &lists, &mut pred);
+    if predicted.code == 0 {
         put_block(&b, &pred[0], target);
     }
-    code
+    predicted
 }
 
 /// "puts predicted blocks into a lent target's planes, borders untouched"
