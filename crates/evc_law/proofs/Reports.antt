@@ -1,19 +1,17 @@
 -- The reports of W2: what they say of a vector; of a mirrored call, and of one with its lists exchanged. Assumes nothing.
 use mathlib.Core.Bool.{Bool, true, false, cond}
-use mathlib.Core.Path.{_≡_, refl, sym, ap, ap₂, subst, _∙_}
-use Prim.Native.Nat.{ℕ, _+_, _-_}
+use mathlib.Core.Path.{_≡_, refl, sym, ap, ap₂, _∙_}
+use Prim.Native.Nat.{_-_}
 use native.Mathlib.Omega.{arith}
-use lib.Dec.{T}
-use lib.IntN.{ℤ, negℤ}
+use lib.IntN.{ℤ}
 use Rattle.evc_def.specs.Blocks.{Allowed}
 use Rattle.evc_def.specs.declared.EvcBlock.{EvcBlock}
 use Rattle.evc_def.specs.declared.EvcMv.{EvcMv}
-use Rattle.evc_clip.specs.Clip.{notMoved, otherSide, nothingMoved, clipComponent, movedComponent, clipMv, movedMv}
+use Rattle.evc_clip.specs.Clip.{nothingMoved, clipMv, movedMv}
 use Rattle.evc_clip.specs.declared.EvcMoved.{EvcMoved}
 use Rattle.evc_clip.proofs.Laws.{unreported-kept, kept-unreported, moved-mirror}
-use Rattle.evc_mc.specs.declared.EvcList.{EvcList}
 use Rattle.evc_mc.specs.Block.{RefPicList, listMoved}
-use Rattle.evc_law.specs.Demand3.{Picture, Call, answer, Accepted, blockLeftRight, blockTopBottom, mvLeftRight, mvTopBottom, ListMirrored, Mirrored, movedLeftRight, movedTopBottom, ReportsMirrored, exchanged, ReportsExchanged}
+use Rattle.evc_law.specs.Demand3.{Picture, Call, answer, Accepted, blockLeftRight, blockTopBottom, mvLeftRight, mvTopBottom, ListMirrored, Mirrored, movedLeftRight, movedTopBottom, ReportsMirrored, ReportsExchanged}
 use Rattle.evc_law.specs.Invisible.{Unclipped}
 use Rattle.evc_law.specs.Reports.{ReportedIfChanged, ReportedIfClipped, Reports}
 

@@ -9,7 +9,7 @@ ghost use Rattle.evc_def.specs.Codes.{firstOf, blockChecks};
 ghost use Rattle.evc_def.specs.Places.{isSame};
 ghost use Rattle.evc_clip.specs.Clip.{nothingMoved, clippedPlace};
 ghost use Rattle.evc_mc.specs.Block.{refPicList, Component, withSamples, listSample, firstSample, isBi, average, predLen};
-ghost use Rattle.evc_mc.specs.Block.{planesShort, listShort, pocExceeds, listExceeds, mc2Code, listMoved, answered, mc2Answer, mc2First, mc2Second};
+ghost use Rattle.evc_mc.specs.Block.{planesShort, listShort, pocExceeds, listExceeds, mc2Code, listMoved, mc2Answer, mc2First, mc2Second};
 ghost use Rattle.evc_mc.specs.Inner.{ListExamined, withList, blockSample, RowSmall, BlockSmall};
 use evc_clip::EvcMoved;
 use evc_def::EvcBlock;

@@ -2,7 +2,7 @@
 use mathlib.Core.Bool.{Bool, true, false, cond}
 use mathlib.Core.List.{List, [], _∷_, _++_, append-nil}
 use mathlib.Core.Path.{_≡_, refl, sym, ap, ap₂, subst, _∙_}
-use Prim.Native.Nat.{ℕ, zero, suc, _+_, _-_, _≤_}
+use Prim.Native.Nat.{ℕ, suc, _+_, _-_, _≤_}
 use native.Mathlib.Nat.{add-zero, zero-add}
 use native.Mathlib.Omega.{arith}
 use borrow.Author.Tests.{ne-eqb, eq-eqb, ltb-true, ltb-false}
@@ -12,11 +12,10 @@ use lib.ListN.{length, take, drop, length-append}
 use Rattle.evc_counts.specs.Counts.{nothingCounted, _plus_}
 use Rattle.evc_counts.specs.declared.MovedCounts.{MovedCounts}
 use Rattle.evc_counts.proofs.Counts.{plus-assoc, nothing-plus}
-use Rattle.evc_trace.specs.Format.{countLen, headerOf}
 use Rattle.evc_trace.specs.declared.TraceHeader.{TraceHeader}
 use Rattle.evc_record.specs.Record.{Planes, Source, source, recordCode, targetAfter}
 use Rattle.evc_replay.specs.Counts.{recordCounts, finished, countedOver, replayedCounts}
-use Rattle.evc_replay.specs.Replay.{headerCode, Replayed, recordsFrom, applied, replayed}
+use Rattle.evc_replay.specs.Replay.{headerCode, Replayed, recordsFrom, applied}
 use Rattle.evc_replay.proofs.Counts.{finished-more, finished-none}
 use Rattle.evc_trace_law.specs.Replays.{Whole, replay}
 use Rattle.evc_trace_law.specs.Counts.{counts, CountsAdd, CountsRefused, FinishedBefore, Counts}

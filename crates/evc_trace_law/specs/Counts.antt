@@ -6,12 +6,12 @@ use mathlib.Core.Path.{_≡_}
 use Prim.Native.Nat.{ℕ}
 use lib.IntN.{ℤ}
 use lib.ListN.{take}
-use Rattle.evc_counts.specs.Counts.{nothingCounted, _plus_}
+use Rattle.evc_counts.specs.Counts.{_plus_}
 use Rattle.evc_counts.specs.declared.MovedCounts.{MovedCounts}
 use Rattle.evc_trace.specs.Format.{countLen, headerLen, headerOf}
 use Rattle.evc_record.specs.Record.{Planes, source}
 use Rattle.evc_replay.specs.Counts.{finished, replayedCounts}
-use Rattle.evc_replay.specs.Replay.{headerCode, recordsFrom, replayed}
+use Rattle.evc_replay.specs.Replay.{headerCode, recordsFrom}
 use Rattle.evc_trace_law.specs.Replays.{Whole, replay}
 
 -- every statement is about one call's references, map and target

@@ -1,12 +1,12 @@
 -- `evc_replay::replay_records` meets its contract. The invariant: what is left of the records, applied to the target as it is, gives what all of them
 -- give; and so do their counts, added to those so far. Assumes nothing.
-use mathlib.Core.Path.{_≡_, refl, sym, ap, ap₂, subst, _∙_}
-use Prim.Native.Nat.{ℕ, _+_, _-_, _*_, _<_, _≤_}
+use mathlib.Core.Path.{_≡_, refl, sym, ap, subst, _∙_}
+use Prim.Native.Nat.{_+_, _-_, _*_, _<_, _≤_}
 use native.Mathlib.Omega.{arith}
 use borrow.Author.Needs.{needs}
 use lib.ListN.{length}
 use Rattle.evc_mc.specs.declared.EvcPredicted.{EvcPredicted}
-use Rattle.evc_counts.specs.Counts.{nothingCounted, _plus_}
+use Rattle.evc_counts.specs.Counts.{_plus_}
 use Rattle.evc_counts.specs.Inner.{AtMost}
 use Rattle.evc_counts.specs.declared.MovedCounts.{MovedCounts}
 use Rattle.evc_counts.proofs.Counts.{nothing-plus, lists-most, most-less, at-most}

@@ -1,5 +1,5 @@
 -- `evc_counts::MovedCounts::with_lists` meets its contract. Assumes nothing.
-use mathlib.Core.Path.{_≡_, sym, ap, subst, _∙_}
+use mathlib.Core.Path.{sym, ap, subst, _∙_}
 use borrow.Author.Needs.{needs}
 use Rattle.evc_counts.specs.Counts.{_plus_, countsOf}
 use Rattle.evc_counts.specs.Inner.{AtMost}
