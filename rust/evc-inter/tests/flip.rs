@@ -2,9 +2,11 @@
 
 mod lcg;
 mod pictures;
+mod records;
 
 use evc_inter::*;
 use lcg::Lcg;
+use records::record;
 
 const FLIPS: [Flip; 2] = [Flip::LeftRight, Flip::TopBottom];
 
@@ -193,19 +195,7 @@ fn records() {
     let records: Vec<_> = (0..40)
         .map(|n| {
             let block = lcg.block(pic_w, pic_h);
-            let [list0, list1] = [0, 8].map(|poc| EvcList {
-                used: true,
-                mv: lcg.mv(),
-                poc,
-            });
-            let none = EvcList::default();
-            let record = match n % 4 {
-                0 => TraceRecord::from_lists(block, list0, none),
-                1 => TraceRecord::from_lists(block, none, list1),
-                2 => TraceRecord::from_lists(block, list0, list1),
-                _ => TraceRecord::direct(block, 0, 8),
-            };
-            record.unwrap()
+            record(n, block, [(); 2].map(|()| lcg.mv()))
         })
         .collect();
     let trace = |records: &mut dyn Iterator<Item = TraceRecord>| {

@@ -3,9 +3,11 @@
 
 mod lcg;
 mod pictures;
+mod records;
 
 use evc_inter::*;
 use lcg::Lcg;
+use records::record;
 
 const SIDES: (u32, u32) = (48, 32);
 
@@ -192,26 +194,14 @@ impl Item {
         let numbers = map_mv_len(SIDES.0, SIDES.1).unwrap();
         let mut number = || lcg.below(4001) as i16 - 2000;
         let col_mv = (0..numbers).map(|_| number()).collect();
-        let mut record = |n| {
+        let mut next = |n| {
             let block = lcg.block();
-            let [list0, list1] = [0, 8].map(|poc| EvcList {
-                used: true,
-                mv: lcg.mv(block),
-                poc,
-            });
-            let none = EvcList::default();
-            let record = match n % 4 {
-                0 => TraceRecord::from_lists(block, list0, none),
-                1 => TraceRecord::from_lists(block, none, list1),
-                2 => TraceRecord::from_lists(block, list0, list1),
-                _ => TraceRecord::direct(block, 0, 8),
-            };
-            record.unwrap()
+            record(n, block, [(); 2].map(|()| lcg.mv(block)))
         };
         Item {
             references,
             col_mv,
-            records: (0..records).map(&mut record).collect(),
+            records: (0..records).map(&mut next).collect(),
         }
     }
 
