@@ -1,4 +1,6 @@
 //! Calls for the camera movement: for each a line with the number returned, the reading and the bits of both means. rust/README.md has the records.
+#![tactic(auto)]
+
 ghost use Rattle.std.specs.Prelude.{◌*◌, ◌≤◌, length};
 
 use evc_camera::EvcCamera;

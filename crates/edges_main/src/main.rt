@@ -1,5 +1,7 @@
 //! Document 01, 'Edges to try': the lines that are not proved as statements, through every call that they concern. A call that is not named
 //! on a line is not concerned.
+#![tactic(auto)]
+
 ghost use Rattle.std.specs.Prelude.{◌≡◌, false};
 ghost use Rattle.evc_def.specs.Blocks.{bad_picture};
 

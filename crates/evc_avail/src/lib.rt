@@ -1,3 +1,5 @@
+#![tactic(auto)]
+
 ghost use Rattle.std.specs.Prelude.{◌≡◌, ◌-◌, ◌*◌, ◌<◌, ◌≤◌, true, not, ◌&&◌, length, if◌then◌else◌};
 ghost use Rattle.evc_def.specs.Blocks.{Allowed};
 ghost use Rattle.evc_def.specs.Codes.{first_of};
@@ -13,14 +15,14 @@ use evc_def::{
 };
 
 #[repr(C)]
-#[derive(Drop)]
+#[derive(Clone, Copy)]
 pub struct EvcAvail {
     pub code: u32,
     pub avail: u16,
 }
 
 // The part of a picture whose units count as available.
-#[derive(Drop)]
+#[derive(Clone, Copy)]
 enum Region {
     Picture,
     Slice(u32),

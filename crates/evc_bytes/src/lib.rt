@@ -1,4 +1,6 @@
 //! Numbers of sixteen bits in bytes, "low byte first": read and written here alone.
+#![tactic(auto)]
+
 ghost use Rattle.std.specs.Prelude.{◌≡◌, [], ◌∷◌, ◌+◌, ◌≤◌, ◌<◌, length};
 ghost use Rattle.evc_int.specs.Whole.{◌modulo◌};
 ghost use Rattle.evc_int.specs.LowBits.{signed16};

@@ -1,3 +1,5 @@
+#![tactic(auto)]
+
 ghost use Rattle.std.specs.Prelude.{◌≡◌, cond, true, ◌+◌, ◌*◌, ◌<◌, ◌≤◌, length, pos, nat_abs, ◌+ℤ◌};
 ghost use Rattle.evc_def.specs.Codes.{first_of};
 ghost use Rattle.evc_map.specs.Maps.{most_units, mv_len};
@@ -7,7 +9,7 @@ ghost use Rattle.evc_camera.specs.Inner.{Within, AllCounted};
 use evc_def::{EvcMv, Scu};
 
 // The units that count, and the whole sums of their list 0 vectors, in quarter samples.
-#[derive(Drop)]
+#[derive(Clone, Copy)]
 pub struct Sums {
     pub units: u64,
     pub x: i64,
@@ -15,7 +17,7 @@ pub struct Sums {
 }
 
 // No unit counts; both sums are zero; the mean across and down, in luma samples.
-#[derive(Drop)]
+#[derive(Clone, Copy)]
 pub enum CameraMotion {
     None,
     Still,
@@ -24,7 +26,7 @@ pub enum CameraMotion {
 
 // kind: 0 no unit counts, 1 still, 2 moving; x and y are +0.0 unless it is 2.
 #[repr(C)]
-#[derive(Drop)]
+#[derive(Clone, Copy)]
 pub struct EvcCamera {
     pub code: u32,
     pub kind: u32,

@@ -1,3 +1,5 @@
+#![tactic(auto)]
+
 ghost use Rattle.std.specs.Prelude.{◌≡◌};
 ghost use Rattle.evc_counts.specs.Counts.{nothing_counted, ◌plus◌, one_if, counts_of};
 ghost use Rattle.evc_counts.specs.Inner.{AtMost};
@@ -5,7 +7,7 @@ ghost use Rattle.evc_counts.specs.Inner.{AtMost};
 use evc_clip::{EvcMoved, MOVED_HIGH, MOVED_LOW};
 
 // How often clipping moved a component to each side.
-#[derive(Drop)]
+#[derive(Clone, Copy)]
 pub struct MovedCounts {
     pub across_low: u64,
     pub across_high: u64,

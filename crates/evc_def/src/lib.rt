@@ -1,3 +1,5 @@
+#![tactic(auto)]
+
 ghost use Rattle.std.specs.Prelude.{◌≡◌, not, ◌&&◌, ◌+◌, ◌<◌, ◌^◌, leb, eqb, get_or, pos, ◌+ℤ◌, ◌-ℤ◌, ◌*ℤ◌, ◌≤ℤ◌};
 ghost use Rattle.std.specs.Int.Signed.{shr_z};
 ghost use Rattle.std.specs.Int.{w16, w32};
@@ -68,7 +70,7 @@ pub fn GET_AVAIL_FLAG(avail: u16, bit: u16) -> bool
 }
 
 // A word of the SCU map: what the decoder noted of one unit of 4 by 4 samples.
-#[derive(Drop)]
+#[derive(Clone, Copy)]
 pub struct MCU(pub u32);
 
 impl MCU {
@@ -112,19 +114,19 @@ pub fn cu_dim_offset(c: usize) -> usize
 // ---- places: whole samples, quarter samples and units of four samples are three types
 
 // A place or a size in whole samples.
-#[derive(Drop)]
+#[derive(Clone, Copy)]
 pub struct Pel(pub i32);
 // A position in quarter samples.
-#[derive(Drop)]
+#[derive(Clone, Copy)]
 pub struct Qpel(pub i32);
 // A place in a reference picture, across and down: qpel_gmv_x and qpel_gmv_y of the Rust.
-#[derive(Drop)]
+#[derive(Clone, Copy)]
 pub struct QpelPlace {
     pub x: Qpel,
     pub y: Qpel,
 }
 // An index in units of four samples (SCU), or a count of them.
-#[derive(Drop)]
+#[derive(Clone, Copy)]
 pub struct Scu(pub usize);
 
 impl Pel {
@@ -234,7 +236,7 @@ impl QpelPlace {
 // ---- what a call takes
 
 #[repr(C)]
-#[derive(Drop)]
+#[derive(Clone, Copy)]
 pub struct EvcMv {
     pub x: i16,
     pub y: i16,
@@ -242,7 +244,7 @@ pub struct EvcMv {
 
 // A block of a picture, in luma samples.
 #[repr(C)]
-#[derive(Drop)]
+#[derive(Clone, Copy)]
 pub struct EvcBlock {
     pub pic_w: u32,
     pub pic_h: u32,

@@ -1,3 +1,5 @@
+#![tactic(auto)]
+
 ghost use Rattle.std.specs.Prelude.{◌≡◌, cond, true, ◌+◌, ◌*◌, ◌<◌, ◌≤◌, length, pos, nat_abs, ◌-ℤ◌};
 ghost use Rattle.evc_int.specs.LowBits.{low16};
 ghost use Rattle.evc_def.specs.Blocks.{max_poc};
@@ -8,7 +10,7 @@ ghost use Rattle.evc_direct.specs.Direct.{poc_too_large, direct_checks, collocat
 use evc_def::{EvcBlock, EvcMv, MAX_POC, Scu};
 
 // The order counts of the picture and of its two references, and the first count that reference 1 lists.
-#[derive(Drop)]
+#[derive(Clone, Copy)]
 pub struct Pocs {
     pub poc: u32,
     pub poc0: u32,
@@ -17,7 +19,7 @@ pub struct Pocs {
 }
 
 #[repr(C)]
-#[derive(Drop)]
+#[derive(Clone, Copy)]
 pub struct EvcDirect {
     pub code: u32,
     pub mv0: EvcMv,

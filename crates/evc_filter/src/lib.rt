@@ -1,3 +1,5 @@
+#![tactic(auto)]
+
 ghost use Rattle.std.specs.Prelude.{◌≡◌, ◌+◌, ◌-◌, ◌*◌, ◌<◌, ◌≤◌, min, length, get_or, cond, ltb};
 ghost use Rattle.evc_filter.specs.Filter.{phases};
 ghost use Rattle.evc_filter.specs.Inner.{taps_of, offsets_of, Small, first_sum, whole_sum, second_sum, finished, Under, first_at, single_at, second_at};
@@ -5,7 +7,7 @@ ghost use Rattle.evc_filter.specs.Inner.{taps_of, offsets_of, Small, first_sum, 
 use evc_plane::PlaneType;
 
 // The sizes of a filter's taps, for sums a p - b q + 2 c x + 2 d y of 16 bits.
-#[derive(Drop)]
+#[derive(Clone, Copy)]
 pub struct Taps {
     pub a: u16,
     pub b: u16,
@@ -152,7 +154,7 @@ fn finish(n: u16, low: u16) -> u16
 // ---- at a place
 
 // Where the samples under the taps lie, from the first one on.
-#[derive(Drop)]
+#[derive(Clone, Copy)]
 pub struct Offsets {
     pub q0: usize,
     pub x: usize,

@@ -1,4 +1,6 @@
 //! The calls of include/evc_inter.h, each over the function that does its work.
+#![tactic(auto)]
+
 ghost use Rattle.std.specs.Prelude.{◌≡◌};
 ghost use Rattle.evc_def.specs.Places.{given_place};
 ghost use Rattle.evc_clip.specs.Clip.{mv_clip};

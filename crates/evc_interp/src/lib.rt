@@ -1,3 +1,5 @@
+#![tactic(auto)]
+
 ghost use Rattle.std.specs.Prelude.{◌≡◌, true, false, ◌||◌, ltb, ◌+◌, ◌*◌, ◌<◌, ◌≤◌, pos, length};
 ghost use Rattle.evc_int.specs.Lists.{with_block};
 ghost use Rattle.evc_def.specs.Blocks.{bad_picture};
@@ -68,7 +70,7 @@ fn window(t: PlaneType, pic_w: u32, pic_h: u32, across: bool, down: bool, gmv: Q
 }
 
 // Where a block is predicted from, and how.
-#[derive(Drop)]
+#[derive(Clone, Copy)]
 pub struct Position {
     pub stride: usize,
     pub at: usize,

@@ -1,3 +1,5 @@
+#![tactic(auto)]
+
 ghost use Rattle.std.specs.Prelude.{◌≡◌, ℕ, ◌+◌, ◌≤◌, length};
 ghost use Rattle.evc_int.specs.Lists.{with_row};
 ghost use Rattle.evc_filter.specs.Inner.{first_at, single_at, second_at};

@@ -1,1 +1,3 @@
+#![tactic(auto)]
+
 // Statements and proofs alone.

@@ -1,5 +1,7 @@
 //! What the programs that replay lists share: the numbers of a record, how much of a buffer is lent, arbitrary samples, the pictures of two lists, and what is
 //! printed. rust/README.md has the records.
+#![tactic(auto)]
+
 ghost use Rattle.std.specs.Prelude.{◌+◌, ◌*◌, ◌<◌, ◌≤◌, length};
 
 use evc_def::{EvcBlock, EvcMv};

@@ -1,3 +1,5 @@
+#![tactic(auto)]
+
 ghost use Rattle.std.specs.Prelude.{◌≡◌, ◌+◌, ◌*◌, ◌/◌, ◌<◌, ◌≤◌, ◌^◌, length, get_or, pos};
 ghost use Rattle.evc_map.specs.Maps.{units_of, most_units, unit_at, word_at, words_short, mv_len, mv_at, map_short};
 

@@ -1,3 +1,5 @@
+#![tactic(auto)]
+
 ghost use Rattle.std.specs.Prelude.{◌≡◌, false, cond, ◌&&◌, eqb, ℕ, ◌+◌, ◌*◌, ◌≤◌, length, get_or};
 ghost use Rattle.evc_int.specs.Lists.{with_row};
 ghost use Rattle.evc_def.specs.Blocks.{bad_picture};
@@ -14,7 +16,7 @@ use evc_plane::PlaneType;
 
 // A list of a block: whether it is in use, its vector, and its picture's order count.
 #[repr(C)]
-#[derive(Drop)]
+#[derive(Clone, Copy)]
 pub struct EvcList {
     pub used: bool,
     pub mv: EvcMv,
@@ -23,7 +25,7 @@ pub struct EvcList {
 
 // What a call returns: its number, and what clipping did to each list's vector.
 #[repr(C)]
-#[derive(Drop)]
+#[derive(Clone, Copy)]
 pub struct EvcPredicted {
     pub code: u32,
     pub moved0: EvcMoved,

@@ -1,3 +1,5 @@
+#![tactic(auto)]
+
 ghost use Rattle.std.specs.Prelude.{◌≡◌, true, false, ◌+◌, ◌-◌, ◌*◌, ◌≤◌, length};
 ghost use Rattle.evc_def.specs.Blocks.{Allowed};
 ghost use Rattle.evc_def.specs.Codes.{first_of};
@@ -8,7 +10,7 @@ use evc_def::{AVAIL_BIT_LE, AVAIL_BIT_UP, AVAIL_BIT_UP_RI, EvcBlock, EvcMv, GET_
 
 // The record of the four candidates and their reference numbers.
 #[repr(C)]
-#[derive(Drop)]
+#[derive(Clone, Copy)]
 pub struct EvcCandidates {
     pub left: EvcMv,
     pub up: EvcMv,
@@ -17,7 +19,7 @@ pub struct EvcCandidates {
     pub refi: [i8; 4],
 }
 
-#[derive(Drop)]
+#[derive(Clone, Copy)]
 pub struct Motion {
     pub code: u32,
     pub cand: EvcCandidates,

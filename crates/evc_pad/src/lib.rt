@@ -1,3 +1,5 @@
+#![tactic(auto)]
+
 ghost use Rattle.std.specs.Prelude.{◌≡◌, false, ◌⊎◌, ℕ, ◌+◌, ◌*◌, ◌<◌, ◌≤◌, length, get_or};
 ghost use Rattle.evc_int.specs.Lists.{with_row, with_block};
 ghost use Rattle.evc_def.specs.Blocks.{bad_picture};

@@ -1,4 +1,6 @@
 //! The four paths of one-plane prediction, by the directions that are filtered: across and down.
+#![tactic(auto)]
+
 ghost use Rattle.std.specs.Prelude.{◌≡◌, true, cond, ℕ, ◌+◌, ◌*◌, ◌<◌, ◌≤◌, length, get_or};
 ghost use Rattle.evc_int.specs.Lists.{with_row, with_block};
 ghost use Rattle.evc_plane.specs.Planes.{side_of};

@@ -1,4 +1,6 @@
 //! One plane of a list, predicted into one of two lent blocks.
+#![tactic(auto)]
+
 ghost use Rattle.std.specs.Prelude.{◌≡◌, cond, ◌+◌, ◌*◌, ◌≤◌, length, drop};
 ghost use Rattle.evc_int.specs.Lists.{with_block};
 ghost use Rattle.evc_interp.specs.Inner.{Readable, sample_from};

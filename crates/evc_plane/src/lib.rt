@@ -1,3 +1,5 @@
+#![tactic(auto)]
+
 ghost use Rattle.std.specs.Prelude.{◌≡◌, false, ◌+◌, ◌*◌, ◌≤◌, length, drop};
 ghost use Rattle.evc_def.specs.Blocks.{bad_picture};
 ghost use Rattle.evc_plane.specs.Planes.{pad_of, origin_of, side_of, plane_len, config_of, start_at, window_start};
@@ -6,13 +8,13 @@ use evc_def::{PIC_PAD_SIZE_C, PIC_PAD_SIZE_L, Pel};
 
 // ---- the sizes of Plane::new
 
-#[derive(Drop)]
+#[derive(Clone, Copy)]
 pub enum PlaneType {
     Y,
     UV,
 }
 
-#[derive(Drop)]
+#[derive(Clone, Copy)]
 pub struct PlaneConfig {
     pub stride: usize,
     pub alloc_height: usize,
@@ -110,7 +112,7 @@ pub fn window_start(t: PlaneType, pic_w: u32, pic_h: u32, x: Pel, y: Pel) -> usi
 
 // ---- PlaneSlice: a window that holds the lent samples, its stride and place
 
-#[derive(Drop)]
+#[derive(Clone, Copy)]
 pub struct PlaneSlice<'a> {
     pub plane: &'a [u16],
     pub stride: usize,

@@ -1,3 +1,5 @@
+#![tactic(auto)]
+
 ghost use Rattle.std.specs.Prelude.{◌≡◌, true, false, ℕ, ◌+◌, ◌*◌, ◌≤◌, length, get_or};
 ghost use Rattle.evc_int.specs.Lists.{with_block};
 ghost use Rattle.evc_def.specs.Codes.{first_of, block_checks};

@@ -1,3 +1,5 @@
+#![tactic(auto)]
+
 ghost use Rattle.std.specs.Prelude.{◌≡◌, false, ◌≤◌, length, take, drop};
 ghost use Rattle.evc_trace.specs.Format.{header_len, record_len, count_len};
 ghost use Rattle.evc_record.specs.Record.{planes, picture_short, source};
@@ -9,7 +11,7 @@ use evc_mc::PRED_LEN;
 use evc_trace::{HEADER_LEN, RECORD_LEN, TraceHeader};
 
 #[repr(C)]
-#[derive(Drop)]
+#[derive(Clone, Copy)]
 pub struct EvcReplay {
     pub code: u32,
     pub index: u64,

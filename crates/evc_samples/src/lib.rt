@@ -1,3 +1,5 @@
+#![tactic(auto)]
+
 ghost use Rattle.std.specs.Prelude.{◌≡◌, ◌||◌, ◌+◌, ◌*◌, ◌<◌, ◌≤◌, length, get_or};
 ghost use Rattle.evc_samples.specs.Samples.{too_large, row_exceeds, exceeds};
 ghost use Rattle.evc_samples.specs.Inner.{exceeds8, exceeds4};
@@ -19,7 +21,7 @@ fn gather_at(o: u16, s: &[u16], i: usize, j: usize) -> u16
 }
 
 // Gathered by eight or by four samples at once: one vector over all rows.
-#[derive(Drop)]
+#[derive(Clone, Copy)]
 struct Lanes8 {
     o0: u16,
     o1: u16,
@@ -31,7 +33,7 @@ struct Lanes8 {
     o7: u16,
 }
 
-#[derive(Drop)]
+#[derive(Clone, Copy)]
 struct Lanes4 {
     o0: u16,
     o1: u16,

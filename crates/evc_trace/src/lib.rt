@@ -1,3 +1,5 @@
+#![tactic(auto)]
+
 ghost use Rattle.std.specs.Prelude.{◌≡◌, ◌++◌, ◌+◌, ◌≤◌, length};
 ghost use Rattle.evc_bytes.specs.Bytes.{bytes_of};
 ghost use Rattle.evc_bytes.specs.Inner.{written};
@@ -14,7 +16,7 @@ pub const RECORD_LEN: usize = 22;
 const VERSION: u16 = 1;
 
 // The picture's sides, its order count, and the first count that the collocated reference lists.
-#[derive(Drop)]
+#[derive(Clone, Copy)]
 pub struct TraceHeader {
     pub pic_w: u32,
     pub pic_h: u32,
@@ -24,7 +26,7 @@ pub struct TraceHeader {
 
 // The fields of a record, as wide as in the trace.
 #[repr(C)]
-#[derive(Drop)]
+#[derive(Clone, Copy)]
 pub struct EvcTraceRecord {
     pub x: u16,
     pub y: u16,

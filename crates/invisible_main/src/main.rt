@@ -2,6 +2,8 @@
 //! and 1023, gives 0 in its last column, where the unclipped place would give 16." Of a picture the line next to one edge holds 1023, all others 0; the vector leads to the
 //! limit past that edge and 1 to 4 quarters of a sample beyond. A line has the luma sample that comes to lie nearest to the picture: of the block, of its quarter there, whose
 //! vector needs no clipping, and of the plane at the exact place; then the reports of clipping the block's vector, across and down (document 02, W2).
+#![tactic(auto)]
+
 use evc_def::{EvcBlock, EvcMv};
 use evc_mc::{EvcList, PRED_LEN};
 use evc_plane::PlaneType;
@@ -22,7 +24,7 @@ const ORIGIN: usize = 80;
 const OLD: u16 = 7;
 
 // A block over the whole picture and one of its quarters, with the sample of each that is printed.
-#[derive(Drop)]
+#[derive(Clone, Copy)]
 struct Parts {
     whole: EvcBlock,
     whole_at: usize,

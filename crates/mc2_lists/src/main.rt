@@ -1,4 +1,6 @@
 //! Calls of block prediction: for each a line with the number returned, the reports of both lists and a number for each of the two blocks. rust/README.md has the records.
+#![tactic(auto)]
+
 ghost use Rattle.std.specs.Prelude.{◌≤◌, ◌<◌, length};
 
 use evc_clip::EvcMoved;

@@ -1,5 +1,7 @@
 //! Calls on one plane: for each a line with the number returned and a number for the block, or the number and the block whole, to be read. rust/README.md has
 //! the records.
+#![tactic(auto)]
+
 use evc_lists::{MAX_PLANE_LEN, MAX_RECORDS};
 
 const MAX_BLOCK_LEN: usize = 8192;

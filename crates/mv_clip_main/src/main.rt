@@ -1,3 +1,5 @@
+#![tactic(auto)]
+
 fn main() {
     mv_clip_text::run();
 }

@@ -1,3 +1,5 @@
+#![tactic(auto)]
+
 ghost use Rattle.std.specs.Prelude.{◌≡◌, ◌∷◌, [], ◌+◌, ◌*◌, ◌/◌, ◌<◌, ◌≤◌, length};
 ghost use Rattle.evc_int.specs.LowBits.{signed16};
 ghost use Rattle.mv_clip_text.specs.Decimal.{digit, decimal, signed_decimal};

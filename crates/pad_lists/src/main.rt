@@ -1,4 +1,6 @@
 //! Planes to pad: for each the number returned, and its rows afterwards, a line each: a number, or the samples, to be read. rust/README.md has the records.
+#![tactic(auto)]
+
 ghost use Rattle.std.specs.Prelude.{◌<◌};
 
 use evc_lists::{MAX_PLANE_LEN, MAX_RECORDS};

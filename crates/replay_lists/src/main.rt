@@ -1,4 +1,6 @@
 //! Traces, each with its pictures: for each a line with the number returned, the index, the counts and a number for each plane of the target. rust/README.md has the records.
+#![tactic(auto)]
+
 ghost use Rattle.std.specs.Prelude.{◌<◌, ◌≤◌, length};
 
 use evc_lists::{MAX_PLANE_LEN, MAX_RECORDS, PICTURES_LEN};

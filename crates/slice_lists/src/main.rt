@@ -1,4 +1,6 @@
 //! Calls for the flags in slices: for each a line with the number returned and the flags. rust/README.md has the records.
+#![tactic(auto)]
+
 ghost use Rattle.std.specs.Prelude.{◌+◌, ◌*◌, ◌<◌, ◌≤◌, length};
 
 use evc_def::EvcBlock;

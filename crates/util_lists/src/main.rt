@@ -1,4 +1,6 @@
 //! Calls for flags, candidates and direct vectors: for each a line with the number returned and all else that the call gives. rust/README.md has the records.
+#![tactic(auto)]
+
 ghost use Rattle.std.specs.Prelude.{◌≤◌, ◌<◌, length};
 
 use evc_def::{EvcBlock, EvcMv};
