@@ -1,0 +1,52 @@
+-- `evc_camera::add_mv` meets its contract. Assumes nothing.
+use mathlib.Core.Bool.{Bool, true, false, cond}
+use mathlib.Core.Path.{◌≡◌, ap, ◌∙◌}
+use Prim.Native.Nat.{ℕ, ◌+◌, ◌≤◌, ◌<◌, ◌^◌}
+use native.Mathlib.Nat.{add-zero}
+use native.Mathlib.Omega.{arith}
+use borrow.Author.Rules.{rules}
+use lib.IntN.{ℤ, pos, ◌+ℤ◌}
+use mir.Syntax.{w16, w64}
+use mir.Val.{SFits, bool_byte}
+use mir.Facts.{to_z-of_z}
+use Rattle.evc_int.proofs.Machine.{res}
+use Rattle.evc_int.proofs.Whole.{of, nat, is-+, same}
+use Rattle.evc_def.specs.declared.EvcMv.{EvcMv}
+use Rattle.evc_map.specs.Maps.{most_units}
+use Rattle.evc_camera.specs.declared.Sums.{Sums}
+use Rattle.evc_camera.specs.Camera.{with_mv}
+use Rattle.evc_camera.proofs.Units.{sum_fits}
+use Rattle.evc_camera.proofs.add_mv.Goals as goal
+
+pub overflow_add-result : goal.overflow_add-result
+overflow_add-result c = record { fits = low c.before.args.counted c.before.args.s.units c.before.requires.few }
+  where
+    low : (b : Bool) (n : ℕ) → n ≤ most_units → n + bool_byte b < 2 ^ 64
+    low true n h = omega arith
+    low false n h = omega arith
+
+x_fits : (c : goal.After-component) → SFits w16 c.before.before.before.args.mv.x
+x_fits c = search rules
+
+y_fits : (c : goal.After-component-2) → SFits w16 c.before.before.before.before.before.before.before.args.mv.y
+y_fits c = search rules
+
+-- a component that does not count adds nothing
+kept : (z : ℤ) → z +ℤ pos 0 ≡ z
+kept z = same (is-+ (of z) (nat 0)) (of z) (omega arith)
+
+made : (s : Sums) (counted : Bool) (mv : EvcMv) (x y : ℤ) → x ≡ s.x +ℤ cond counted mv.x (pos 0) → y ≡ s.y +ℤ cond counted mv.y (pos 0)
+    → record { units = s.units + bool_byte counted; x = x; y = y } ≡ cond counted (with_mv s mv) s
+made s true mv x y p q = rw (p, q)
+made s false mv x y p q = rw (p ∙ kept s.x, q ∙ kept s.y, add-zero s.units)
+
+pub returns : goal.returns
+returns c =
+    let p = c.before.before.before.before in
+    let s = p.before.before.before.before.before in
+    let v = simp (to_z-of_z (x_fits p.before.before)) at p.before.before.component.ensures in
+    let w = simp (to_z-of_z (y_fits c.before.before)) at c.before.before.component-2.ensures in
+    let x = simp (to_z-of_z (sum_fits s.args.s.x s.requires.across), res w16 {z = p.before.before.component.result} p.before.before.component.type-inv) at p.add.ensures in
+    let y = simp (to_z-of_z (sum_fits s.args.s.y s.requires.down), res w16 {z = c.before.before.component-2.result} c.before.before.component-2.type-inv) at c.add-2.ensures in
+    simp (res w64 {z = p.add.result} p.add.type-inv, res w64 {z = c.add-2.result} c.add-2.type-inv)
+    (made s.args.s s.args.counted s.args.mv _ _ (x.0 ∙ ap (λ (t : ℤ). s.args.s.x +ℤ t) v) (y.0 ∙ ap (λ (t : ℤ). s.args.s.y +ℤ t) w), x.1, y.1)

@@ -1,0 +1,33 @@
+-- `evc_clip::clip_component` meets its contract: the vector is what leads to the clipped place. Assumes nothing.
+use mathlib.Core.Path.{◌≡◌, sym, subst, ◌∙◌}
+use Prim.Native.Nat.{ℕ}
+use native.Mathlib.Omega.{arith}
+use lib.IntN.{ℤ, pos, ◌-ℤ◌, ◌*ℤ◌}
+use mir.Facts.{to_z-of_z}
+use mir.Syntax.{w16}
+use mir.Val.{SFits}
+use Rattle.evc_int.proofs.Whole.{is-k*, is_eq, nat}
+use Rattle.evc_int.proofs.Expressions.{◌⊕◌, ◌⊖◌, ◌⊗◌, solve}
+use Rattle.evc_int.proofs.Machine.{fit, res}
+use Rattle.evc_clip.specs.Clip.{place_of, clip_component}
+use Rattle.evc_clip.proofs.Laws.{clipped_fits}
+use Rattle.evc_clip.proofs.clip_component.Goals as goal
+
+pub qpel-requires : goal.qpel-requires
+qpel-requires c = fit (is-k* 4 (is_eq c.new.ensures (nat c.before.args.place))) (omega arith)
+
+abbrev start : goal.After-qpel_gmv → goal.Start
+start c = c.before.before.before
+
+-- what leads from the block to a place, over plain numbers
+vector : (x : ℕ) (mv p a g : ℤ) → p ≡ pos x → a ≡ pos 4 *ℤ p → g ≡ place_of x mv → g -ℤ a ≡ mv
+vector x mv p a g ep ea eg = rw (eg, ea, ep) (solve ((! (pos 4) ⊗ ! (pos x) ⊕ ! mv) ⊖ ! (pos 4) ⊗ ! (pos x)) (! mv) (omega arith))
+
+leads : (c : goal.After-qpel_gmv) → let s = start c in c.qpel_gmv.result.0 -ℤ c.before.qpel.result.0 ≡ clip_component s.args.pic s.args.place s.args.side s.args.mv
+leads c = vector _ _ _ _ _ c.before.before.new.ensures c.before.qpel.ensures (simp (to_z-of_z (start c).ranges.mv) at c.qpel_gmv.ensures)
+
+pub mv_to-requires : goal.mv_to-requires
+mv_to-requires c = subst (SFits w16) (sym (leads c)) (clipped_fits _ _ _ _ (start c).requires (start c).ranges.mv)
+
+pub returns : goal.returns
+returns c = res w16 c.mv_to.type-inv ∙ c.mv_to.ensures ∙ leads c.before

@@ -1,0 +1,30 @@
+-- `evc_clip::clip_mv` meets its contract. Assumes nothing.
+use mathlib.Core.Path.{◌≡◌, ◌∙◌}
+use borrow.Author.Rules.{rules}
+use lib.IntN.{ℤ}
+use mir.Syntax.{w16}
+use mir.Val.{SFits}
+use mir.Facts.{to_z-of_z}
+use Rattle.evc_int.proofs.Machine.{res}
+use Rattle.evc_def.specs.declared.EvcBlock.{EvcBlock}
+use Rattle.evc_def.specs.declared.EvcMv.{EvcMv}
+use Rattle.evc_clip.specs.Clip.{clip_component, clip_mv}
+use Rattle.evc_clip.proofs.clip_mv.Goals as goal
+
+x_fits : (c : goal.After-struct_told-1) → SFits w16 c.before.args.mv.x
+x_fits c = search rules
+
+y_fits : (c : goal.After-struct_told-2-1) → SFits w16 c.before.before.before.args.mv.y
+y_fits c = search rules
+
+-- the record that is made is the one that the definition names
+made : (b : EvcBlock) (mv : EvcMv) (x y : ℤ) → x ≡ clip_component b.pic_w b.x b.w mv.x → y ≡ clip_component b.pic_h b.y b.h mv.y → record { x = x; y = y } ≡ clip_mv b mv
+unfolding clip_mv
+made b mv x y p q = simp (p, q)
+
+pub returns : goal.returns
+returns c =
+    let d = c.before.before in
+    made _ _ _ _
+    (res w16 d.clip_component.type-inv ∙ (simp (to_z-of_z (x_fits d.before)) at d.clip_component.ensures))
+    (res w16 c.clip_component-2.type-inv ∙ (simp (to_z-of_z (y_fits c.before)) at c.clip_component-2.ensures))

@@ -1,0 +1,25 @@
+-- `evc_clip::clipped_place` meets its contract. Assumes nothing.
+use mathlib.Core.Path.{◌≡◌}
+use borrow.Author.Rules.{rules}
+use mir.Facts.{to_z-of_z}
+use mir.Syntax.{w16}
+use mir.Val.{SFits}
+use Rattle.evc_def.specs.declared.EvcBlock.{EvcBlock}
+use Rattle.evc_def.specs.declared.EvcMv.{EvcMv}
+use Rattle.evc_def.specs.declared.Qpel.{Qpel}
+use Rattle.evc_clip.specs.Clip.{place_of, clip_component, clip_mv, clipped_place}
+use Rattle.evc_clip.proofs.clipped_place.Goals as goal
+
+fits : (s : goal.Start) → SFits w16 s.args.mv.x × SFits w16 s.args.mv.y
+fits s = (search rules, search rules)
+
+-- the pair that is made is the one that the definition names
+made : (b : EvcBlock) (mv : EvcMv) (x y : Qpel) → x.0 ≡ place_of b.x (clip_component b.pic_w b.x b.w mv.x) → y.0 ≡ place_of b.y (clip_component b.pic_h b.y b.h mv.y) → record { x = x; y = y } ≡ clipped_place b mv
+unfolding clipped_place clip_mv
+made b mv x y p q = rw (p, q)
+
+pub returns : goal.returns
+returns c =
+    let d = c.before.before in
+    let s = d.before.before in
+    made _ _ _ _ (simp (to_z-of_z (fits s).0) at d.qpel_gmv.ensures) (simp (to_z-of_z (fits s).1) at c.qpel_gmv-2.ensures)

@@ -1,0 +1,17 @@
+-- `evc_counts::MovedCounts::with_lists` meets its contract. Assumes nothing.
+use mathlib.Core.Path.{sym, ap, subst, ◌∙◌}
+use Rattle.evc_counts.specs.Counts.{◌plus◌, counts_of}
+use Rattle.evc_counts.specs.Inner.{AtMost}
+use Rattle.evc_counts.specs.declared.MovedCounts.{MovedCounts}
+use Rattle.evc_counts.proofs.Counts.{plus_assoc, plus_most, counts_most}
+use Rattle.evc_counts.proofs.MovedCounts.with_lists.Goals as goal
+
+pub with-requires-2 : goal.with-requires-2
+with-requires-2 c =
+    let s = c.before in
+    subst (AtMost 18446744073709551614) (sym c.with.ensures) (plus_most 18446744073709551613 1 s.args.self (counts_of s.args.moved0) s.requires (counts_most s.args.moved0))
+
+pub returns : goal.returns
+returns c =
+    let a = c.before.before.args in
+    c.with-2.ensures ∙ ap (λ (d : MovedCounts). d plus counts_of a.moved1) c.before.with.ensures ∙ plus_assoc a.self (counts_of a.moved0) (counts_of a.moved1)

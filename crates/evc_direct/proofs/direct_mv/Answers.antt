@@ -1,0 +1,29 @@
+-- `evc_direct::direct_mv` meets its contract. Assumes nothing.
+use mathlib.Core.Path.{ap, ◌∙◌}
+use native.Mathlib.Omega.{arith}
+use Rattle.evc_direct.specs.Direct.{direct_vectors}
+use Rattle.evc_direct.proofs.Direct.{block_good, map_good, counts_good}
+use Rattle.evc_direct.proofs.direct_mv.Goals as goal
+
+pub unit_at-scup-requires : goal.unit_at-scup-requires
+unit_at-scup-requires c =
+    let a = c.args in
+    let k = block_good a.block a.pocs a.has-col a.col-mv.now c.requires in
+    (k.0.size_high, omega arith, omega arith)
+
+pub collocated_mv-mv-requires : goal.collocated_mv-mv-requires
+collocated_mv-mv-requires c =
+    let a = c.before.args in
+    rw c.unit_at-scup.ensures (map_good a.block a.pocs a.has-col a.col-mv.now c.before.requires)
+
+pub direct_vectors-requires : goal.direct_vectors-requires
+direct_vectors-requires c =
+    let s = c.before.before in
+    let a = s.args in
+    counts_good a.block a.pocs a.has-col a.col-mv.now s.requires
+
+pub returns : goal.returns
+returns c =
+    let m = c.before in
+    let a = m.before.before.args in
+    c.direct_vectors.ensures ∙ ap (direct_vectors a.pocs) (m.collocated_mv-mv.ensures ∙ rw m.before.unit_at-scup.ensures)

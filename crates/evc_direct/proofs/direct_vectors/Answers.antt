@@ -1,0 +1,76 @@
+-- `evc_direct::direct_vectors` meets its contract: zeros where co is 0, else four scaled components. Assumes nothing.
+use mathlib.Core.Path.{◌≡◌, refl, ap₂, ◌∙◌}
+use Prim.Native.Nat.{ℕ, zero, suc, ◌≤◌, ◌<◌}
+use native.Mathlib.Omega.{arith}
+use borrow.Author.Tests.{eq-eqb, ne_eqb}
+use lib.IntN.{ℤ, pos, nat_abs, ◌-ℤ◌}
+use mir.Syntax.{w32}
+use mir.Val.{to_z, of_z}
+use Rattle.evc_int.specs.LowBits.{low16}
+use Rattle.evc_int.proofs.Whole.{is--, is_eq, nat, abs_of}
+use Rattle.evc_int.proofs.Expressions.{◌⊖◌, neg, solve}
+use Rattle.evc_int.proofs.Machine.{res}
+use Rattle.evc_def.specs.Blocks.{max_poc}
+use Rattle.evc_def.specs.declared.EvcMv.{EvcMv}
+use Rattle.evc_direct.specs.Direct.{dpoc_co, dpoc0, dpoc1, exact_quotient, exact_quotients, low_mv, direct_vectors}
+use Rattle.evc_direct.specs.declared.Pocs.{Pocs}
+use Rattle.evc_direct.proofs.direct_vectors.Goals as goal
+
+-- a distance of counts, as the machine reads it, is small, and 0 only between equal ones
+small : (d e : ℤ) → e ≡ d → nat_abs d ≤ max_poc → nat_abs e ≤ max_poc
+small d e q h = rw q h
+
+apart : (a b : ℕ) (d e : ℤ) → (a ≡ b → ⊥) → d ≡ pos a -ℤ pos b → e ≡ d → 0 < nat_abs e
+apart a b d e n p q = go (nat_abs e) refl
+  where
+    go : (m : ℕ) → nat_abs e ≡ m → 0 < m
+    go zero z = absurd (n (let i = is_eq (q ∙ p) (is-- (nat a) (nat b)) in omega (arith, abs_of e)))
+    go (suc m) z = omega arith
+
+-- a vector scaled by a distance
+abbrev scaled_by : ℤ → ℤ → EvcMv → EvcMv
+scaled_by dpoc co mv = low_mv (exact_quotient dpoc mv.x co) (exact_quotient dpoc mv.y co)
+
+module _ (p : Pocs) (mv : EvcMv) where
+  none : p.poc1 ≡ p.list_poc0 → record { code = 0; mv0 = record { x = pos 0; y = pos 0 }; mv1 = record { x = pos 0; y = pos 0 } } ≡ direct_vectors p mv
+  unfolding direct_vectors exact_quotients low16
+  none e = rw (eq-eqb p.poc1 p.list_poc0 e)
+
+  both : (r s : EvcMv) → (p.poc1 ≡ p.list_poc0 → ⊥) → r ≡ scaled_by (dpoc0 p) (dpoc_co p) mv → s ≡ scaled_by (dpoc1 p) (dpoc_co p) mv → record { code = 0; mv0 = r; mv1 = s } ≡ direct_vectors p mv
+  unfolding direct_vectors exact_quotients
+  both r s n e f = rw (ne_eqb p.poc1 p.list_poc0 n, e, f)
+
+  -- -(poc1 - poc) is the distance the other way round
+  turned : pos p.poc -ℤ pos p.poc1 ≡ dpoc1 p
+  turned = solve (! (pos p.poc) ⊖ ! (pos p.poc1)) (neg (! (pos p.poc1) ⊖ ! (pos p.poc))) (omega arith)
+
+pub returns-then-p : goal.returns-then-p
+returns-then-p c = none _ _ c.if-p.true
+
+abbrev start : goal.After-dpoc-dpoc_co → goal.Start
+start k = k.before.before.before
+
+co_apart : (k : goal.After-dpoc-dpoc_co) → 0 < nat_abs (to_z w32 (of_z w32 k.dpoc-dpoc_co.result))
+co_apart k = apart _ _ _ _ k.before.if-p.false k.dpoc-dpoc_co.ensures.0 (res w32 k.dpoc-dpoc_co.type-inv)
+
+co_small : (k : goal.After-dpoc-dpoc_co) → nat_abs (to_z w32 (of_z w32 k.dpoc-dpoc_co.result)) ≤ max_poc
+co_small k = small k.dpoc-dpoc_co.result _ (res w32 k.dpoc-dpoc_co.type-inv) k.dpoc-dpoc_co.ensures.1
+
+pub scaled_mv-requires : goal.scaled_mv-requires
+scaled_mv-requires c =
+    (small c.dpoc.result _ (res w32 c.dpoc.type-inv) c.dpoc.ensures.1, co_apart c.before, co_small c.before)
+
+pub scaled_mv-requires-2 : goal.scaled_mv-requires-2
+scaled_mv-requires-2 c =
+    let k = c.before.before.before in
+    (small c.dpoc-2.result _ (res w32 c.dpoc-2.type-inv) c.dpoc-2.ensures.1, co_apart k, co_small k)
+
+pub returns : goal.returns
+returns c =
+    let m = c.before.before in
+    let k = m.before.before in
+    let s = start k in
+    let co : to_z w32 (of_z w32 k.dpoc-dpoc_co.result) ≡ dpoc_co s.args.p = res w32 k.dpoc-dpoc_co.type-inv ∙ k.dpoc-dpoc_co.ensures.0 in
+    both s.args.p s.args.mv _ _ k.before.if-p.false
+    (m.scaled_mv.ensures ∙ ap₂ (λ (a b : ℤ). scaled_by a b s.args.mv) (res w32 m.before.dpoc.type-inv ∙ m.before.dpoc.ensures.0) co)
+    (c.scaled_mv-2.ensures ∙ ap₂ (λ (a b : ℤ). scaled_by a b s.args.mv) (res w32 c.before.dpoc-2.type-inv ∙ c.before.dpoc-2.ensures.0 ∙ turned s.args.p s.args.mv) co)

@@ -1,0 +1,59 @@
+-- `evc_filter::times` meets its contract, by the digits of t to base 4. Assumes nothing.
+use Prim.Native.Nat.{ℕ, ◌+◌, ◌*◌, ◌/◌, ◌%◌, ◌≤◌}
+use mathlib.Core.Path.{◌≡◌, ap}
+use native.Mathlib.Nat.{mul-le-mul, mul-le-mul_left, mul-le-mul_right}
+use native.Mathlib.Omega.{arith}
+use lib.Bits.{bit_and, and_mask, and_le_l}
+use Rattle.evc_filter.proofs.times.Goals as goal
+
+-- a product by the digits of its first factor
+digits : (t x : ℕ) → t * x ≡ t / 16 * x * 16 + bit_and (t / 4) 3 * x * 4 + bit_and t 3 * x
+digits t x =
+    let e : t ≡ t / 16 * 16 + bit_and (t / 4) 3 * 4 + bit_and t 3 = omega (arith, and_mask (t / 4) 2, and_mask t 2) in
+    omega (arith, ap (λ (i : ℕ). i * x) e)
+
+-- no shift loses a bit
+joined : (t x high middle low : ℕ) → t * x ≤ 65535 → high ≡ t / 16 * x → middle ≡ bit_and (t / 4) 3 * x → low ≡ bit_and t 3 * x
+    → (high * 4 % 65536 + middle) * 4 % 65536 + low ≡ t * x
+joined t x high middle low h p q r =
+    let d = digits t x in
+    let e : high * 4 % 65536 ≡ high * 4 = omega arith in
+    rw e (omega arith)
+
+module _ (s : goal.Start) where
+  fits : s.args.t * s.args.x ≤ 65535
+  fits = omega (arith, mul-le-mul s.requires.0 s.requires.1)
+
+  digit_fits : (n : ℕ) → n ≤ s.args.t → n * s.args.x ≤ 65535
+  digit_fits n h = omega (arith, fits, mul-le-mul_right s.args.x h)
+
+pub multiple-high-requires : goal.multiple-high-requires
+multiple-high-requires c = digit_fits c _ (omega arith)
+
+pub multiple-middle-requires : goal.multiple-middle-requires
+multiple-middle-requires c = digit_fits c.before _ (omega (arith, and_le_l (c.before.args.t / 4) 3))
+
+pub multiple-low-requires : goal.multiple-low-requires
+multiple-low-requires c = digit_fits c.before.before _ (and_le_l c.before.before.args.t _)
+
+abbrev start : goal.After-multiple-low → goal.Start
+start c = c.before.before.before
+
+product : (c : goal.After-multiple-low) → (c.before.before.multiple-high.result * 4 % 65536 + c.before.multiple-middle.result) * 4 % 65536 + c.multiple-low.result ≡ (start c).args.t * (start c).args.x
+product c = joined (start c).args.t (start c).args.x _ _ _ (fits (start c)) c.before.before.multiple-high.ensures c.before.multiple-middle.ensures c.multiple-low.ensures
+
+pub overflow_add-result : goal.overflow_add-result
+overflow_add-result c = record { fits = omega (arith, fits (start c), digits (start c).args.t (start c).args.x) }
+
+pub overflow_add-result-2 : goal.overflow_add-result-2
+overflow_add-result-2 c = record { fits = omega (arith, fits (start c), digits (start c).args.t (start c).args.x) }
+
+pub returns : goal.returns
+returns c =
+    let s = start c in
+    let e = product c in (
+      e,
+      omega (arith, e, mul-le-mul s.requires.0 s.requires.1),
+      omega (arith, e, mul-le-mul_left s.args.t s.requires.1),
+      omega (arith, e, mul-le-mul_right s.args.x s.requires.0),
+    )

@@ -1,0 +1,12 @@
+-- `evc_inter::evc_pad` meets its contract: `pad` at the plane type of the flag. Assumes nothing.
+use mathlib.Core.Path.{ap, ◌∙◌}
+use Rattle.evc_plane.specs.declared.PlaneType.{PlaneType}
+use Rattle.evc_pad.specs.Padding.{pad_code, pad_after}
+use Rattle.evc_inter.proofs.evc_pad.Goals as goal
+
+pub returns : goal.returns
+returns c =
+    let p = c.before.before in
+    let q = p.before.before in
+    let a = q.before.before.args in
+    let e = q.plane_type.ensures in record { value = p.pad.ensures.value ∙ ap (λ (k : PlaneType). pad_code k a.pic-w a.pic-h a.plane.now) e; plane_after = p.pad.ensures.plane_after ∙ ap (λ (k : PlaneType). pad_after k a.pic-w a.pic-h a.plane.now) e }

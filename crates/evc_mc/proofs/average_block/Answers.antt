@@ -1,0 +1,114 @@
+-- `evc_mc::average_block` meets its contract: each plane is averaged as one run, and no plane's samples are touched by another's. Assumes nothing.
+use Prim.Native.Nat.{ℕ, ◌+◌, ◌*◌, ◌≤◌}
+use mathlib.Core.List.{List}
+use mathlib.Core.Logic.{inr}
+use mathlib.Core.Path.{◌≡◌, refl, sym, ap, subst, ◌∙◌}
+use native.Mathlib.Omega.{arith}
+use lib.ListN.{get_or}
+use Rattle.evc_int.specs.Lists.{with_row, with_block}
+use Rattle.evc_int.proofs.Lists.{with_row-ext, with_row-out, with_block-ext, with_block-run, run_each}
+use Rattle.evc_def.specs.declared.EvcBlock.{EvcBlock}
+use Rattle.evc_mc.specs.Block.{Component, luma, cb, cr, offset_of, width_of, height_of, with_component, with_samples, average}
+use Rattle.evc_mc.specs.Inner.{block_sample, RowSmall, BlockSmall}
+use Rattle.evc_mc.proofs.Checks.{Sides, sides}
+use Rattle.evc_mc.proofs.Samples.{size_of, component_room}
+use Rattle.evc_mc.proofs.average_block.Goals as goal
+
+-- a component's samples as one run
+row_small : (b : EvcBlock) (d : List ℕ) (c : Component) (o : ℕ) → o ≡ offset_of c → BlockSmall b d → RowSmall d o (size_of b c)
+row_small b d c o e s =
+    run_each (λ (i : ℕ). get_or d (o + i) 0 ≤ 1023) (width_of b c) (height_of b c)
+    (λ y x ly lx.
+    let i : offset_of c + y * width_of b c + x ≡ o + (y * width_of b c + x) = omega arith in
+    subst (λ (i : ℕ). get_or d i 0 ≤ 1023) i (s c y x ly lx))
+
+-- a plane that lies behind is as it was
+behind : (l l₀ : List ℕ) (at n o : ℕ) (f : ℕ → ℕ) → l ≡ with_row l₀ at n f → at + n ≤ o → (i : ℕ) → get_or l (o + i) 0 ≡ get_or l₀ (o + i) 0
+behind l l₀ at n o f e h i = ap (λ (k : List ℕ). get_or k (o + i) 0) e ∙ with_row-out 0 l₀ at n f (o + i) (inr (omega arith))
+
+small_behind : (l l₀ : List ℕ) (at n o m : ℕ) (f : ℕ → ℕ) → l ≡ with_row l₀ at n f → at + n ≤ o → RowSmall l₀ o m → RowSmall l o m
+small_behind l l₀ at n o m f e h s i lt = subst (λ (v : ℕ). v ≤ 1023) (sym (behind l l₀ at n o f e h i)) (s i lt)
+
+module _ (b : EvcBlock) (p q : List ℕ) where
+  abbrev mean : Component → ℕ → ℕ → ℕ
+  mean c y x = average (block_sample b p c y x) (block_sample b q c y x)
+
+  abbrev averaged : List ℕ → ℕ → ℕ → List ℕ
+  averaged l o n = with_row l o n (λ (i : ℕ). average (get_or l (o + i) 0) (get_or q (o + i) 0))
+
+  -- a plane whose samples are still those of p
+  plane : (c : Component) (l : List ℕ) (o : ℕ) → o ≡ offset_of c → ((i : ℕ) → get_or l (o + i) 0 ≡ get_or p (o + i) 0) → averaged l o (size_of b c) ≡ with_component b c (mean c) l
+  unfolding with_component
+  plane c l o e s =
+      let g : ℕ → ℕ = λ i. average (get_or p (o + i) 0) (get_or q (o + i) 0) in
+      with_row-ext l o (size_of b c) _ g (λ i lt. ap (λ (v : ℕ). average v (get_or q (o + i) 0)) (s i))
+      ∙ with_block-run l o (width_of b c) (height_of b c) g
+      ∙ ap (λ (k : ℕ). with_block l k (width_of b c) (width_of b c) (height_of b c) (λ (y x : ℕ). g (y * width_of b c + x))) e
+      ∙ with_block-ext l (offset_of c) (width_of b c) (width_of b c) (height_of b c) _ (mean c)
+      (λ y x ly lx.
+      let i : o + (y * width_of b c + x) ≡ offset_of c + y * width_of b c + x = omega arith in
+      ap (λ (k : ℕ). average (get_or p k 0) (get_or q k 0)) i)
+
+  done : Sides b → (o r : ℕ) (d₁ d₂ d₃ : List ℕ) → o ≡ offset_of cb → r ≡ offset_of cr → d₁ ≡ averaged p 0 (size_of b luma) → d₂ ≡ averaged d₁ o (size_of b cb) → d₃ ≡ averaged d₂ r (size_of b cr) → d₃ ≡ with_samples b mean p
+  unfolding with_samples
+  done z o r d₁ d₂ d₃ eo er e₁ e₂ e₃ =
+      let x = component_room b z luma in
+      let y = component_room b z cb in
+      e₃
+      ∙ plane cr d₂ r er (λ i. behind d₂ d₁ o (size_of b cb) r _ e₂ (omega arith) i ∙ behind d₁ p 0 (size_of b luma) r _ e₁ (omega arith) i)
+      ∙ ap (with_component b cr (mean cr)) (e₂ ∙ plane cb d₁ o eo (λ i. behind d₁ p 0 (size_of b luma) o _ e₁ (omega arith) i) ∙ ap (with_component b cb (mean cb)) (e₁ ∙ plane luma p 0 refl (λ i. refl)))
+
+abbrev start : goal.After-average_plane-arg-1 → goal.Start
+start c = c.before.before.before.before.before.before.before
+
+abbrev second : goal.After-average_plane-arg-2-1 → goal.After-average_plane-arg-1
+second c = c.before.before.before.before
+
+abbrev third : goal.After-average_plane-arg-3-1 → goal.After-average_plane-arg-2-1
+third c = c.before.before.before.before
+
+known : (s : goal.Start) → Sides s.args.b
+known s = sides s.args.b s.requires.b_value.0
+
+pub average_plane-requires : goal.average_plane-requires
+average_plane-requires c =
+    let s = start c in
+    let b = s.args.b in
+    let r = component_room b (known s) luma in record { n_in_bounds = (omega (arith, s.requires.b_value.1), omega (arith, s.requires.b_value.2)); row_small = (row_small b s.args.pred0.now luma 0 refl s.requires.block_small.0, row_small b s.args.pred1.now luma 0 refl s.requires.block_small.1) }
+
+pub average_plane-requires-2 : goal.average_plane-requires-2
+average_plane-requires-2 c =
+    let s = start (second c) in
+    let b = s.args.b in
+    let x = component_room b (known s) luma in
+    let r = component_room b (known s) cb in
+    let o = c.before.before.before.before.before.before.cu_dim_offset-offset_u.ensures in
+    let k = c.before.before.before.average_plane in record { n_in_bounds = (omega (arith, o, k.auto.0, s.requires.b_value.1), omega (arith, o, s.requires.b_value.2)); row_small = (small_behind _ _ _ _ _ _ _ k.ensures (omega (arith, o)) (row_small b s.args.pred0.now cb _ o s.requires.block_small.0), row_small b s.args.pred1.now cb _ o s.requires.block_small.1) }
+
+pub average_plane-requires-3 : goal.average_plane-requires-3
+average_plane-requires-3 c =
+    let d = third c in
+    let s = start (second d) in
+    let b = s.args.b in
+    let x = component_room b (known s) luma in
+    let y = component_room b (known s) cb in
+    let r = component_room b (known s) cr in
+    let o = d.before.before.before.before.before.before.cu_dim_offset-offset_u.ensures in
+    let q = c.before.before.before.before.before.before.before.before.before.cu_dim_offset-offset_v.ensures in
+    let k = d.before.before.before.average_plane in
+    let l = c.before.before.before.average_plane-2 in record { n_in_bounds = (omega (arith, q, k.kept.0, l.auto.0, s.requires.b_value.1), omega (arith, q, s.requires.b_value.2)); row_small = (small_behind _ _ _ _ _ _ _ l.ensures (omega (arith, o, q)) (small_behind _ _ _ _ _ _ _ k.ensures (omega (arith, q)) (row_small b s.args.pred0.now cr _ q s.requires.block_small.0)), row_small b s.args.pred1.now cr _ q s.requires.block_small.1) }
+
+pub returns : goal.returns
+returns c =
+    let z = c.before.before in
+    let y = z.before.before.before.before in
+    let x = y.before.before.before.before in
+    let s = x.before.before.before.before.before.before.before.before in
+    done s.args.b s.args.pred0.now s.args.pred1.now (known s) _ _ _ _ _ x.before.before.before.cu_dim_offset-offset_u.ensures x.before.before.cu_dim_offset-offset_v.ensures
+    x.average_plane.ensures y.average_plane-2.ensures z.average_plane-3.ensures
+
+pub overflow_mul-chroma : goal.overflow_mul-chroma
+overflow_mul-chroma c = record { fits = omega (arith, component_room _ (known c.before.before.before.before) cb) }
+
+pub overflow_mul-h : goal.overflow_mul-h
+overflow_mul-h c = record { fits = omega (arith, component_room _ (known (start c)) luma) }

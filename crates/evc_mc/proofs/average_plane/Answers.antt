@@ -1,0 +1,78 @@
+-- `evc_mc::average_plane` meets its contract. The invariant: the first i samples are averaged. Assumes nothing.
+use Prim.Native.Nat.{ℕ, ◌+◌, ◌-◌, ◌<◌, ◌≤◌}
+use mathlib.Core.List.{List}
+use mathlib.Core.Logic.{inr}
+use mathlib.Core.Path.{◌≡◌, refl, ap, ◌∙◌}
+use native.Mathlib.Omega.{arith}
+use lib.ListN.{length-set, get_or}
+use Rattle.evc_int.specs.Lists.{with_row}
+use Rattle.evc_int.proofs.Lists.{row_step, row_done, with_row-out}
+use Rattle.evc_mc.specs.Block.{average}
+use Rattle.evc_mc.proofs.average_plane.Goals as goal
+
+-- the next sample is still the one of before
+still : (l l₀ : List ℕ) (o i : ℕ) (f : ℕ → ℕ) → l ≡ with_row l₀ o i f → get_or l (o + i) 0 ≡ get_or l₀ (o + i) 0
+still l l₀ o i f e = ap (λ (k : List ℕ). get_or k (o + i) 0) e ∙ with_row-out 0 l₀ o i f (o + i) (inr (omega arith))
+
+pub loop-i-init : goal.loop-i-init
+unfolding with_row
+loop-i-init c = (omega arith, refl, refl)
+
+-- both samples are at most 1023
+small : (c : goal.In-loop-i) → let s = c.before.before in let i = c.before.loop-i.i in (get_or c.before.loop-i.pred0 (s.args.offset + i) 0 ≤ 1023) × (get_or s.args.pred1.now (s.args.offset + i) 0 ≤ 1023)
+small c =
+    let s = c.before.before in
+    let i = c.before.loop-i.i in
+    let lt : i < s.args.n = omega arith in
+    (omega (arith, still _ _ _ _ _ c.before.loop-i.invariant.2, s.requires.row_small.0 i lt), s.requires.row_small.1 i lt)
+
+pub overflow_add-pred0-in-loop-i-2 : goal.overflow_add-pred0-in-loop-i-2
+overflow_add-pred0-in-loop-i-2 c = record { fits = omega (arith, small c.before.before) }
+
+pub overflow_add-pred0-in-loop-i-3 : goal.overflow_add-pred0-in-loop-i-3
+overflow_add-pred0-in-loop-i-3 c = record { fits = omega (arith, small c.before.before) }
+
+pub loop-i-preserved : goal.loop-i-preserved
+loop-i-preserved c =
+    let i = c.before.before.before.loop-i.invariant in
+    let s = c.before.before.before.before in
+    (omega arith, simp length-set i.1, row_step _ _ _ _ _ _ i.2 (ap (λ (v : ℕ). average v (get_or s.args.pred1.now (s.args.offset + c.before.before.before.loop-i.i) 0)) (still _ _ _ _ _ i.2)))
+
+pub returns : goal.returns
+returns c = let i = c.before.loop-i.invariant in row_done _ _ _ _ _ _ i.2 i.0 c.loop-i-test.false
+
+pub overflow_add-pred0 : goal.overflow_add-pred0
+overflow_add-pred0 c = omega arith
+
+pub offset_bounds-pred0-offset : goal.offset_bounds-pred0-offset
+offset_bounds-pred0-offset c = omega arith
+
+pub bounds-pred0-offset : goal.bounds-pred0-offset
+bounds-pred0-offset c = omega arith
+
+pub overflow_add-pred0-in-loop-i : goal.overflow_add-pred0-in-loop-i
+overflow_add-pred0-in-loop-i c = omega arith
+
+pub offset_bounds-pred1-offset : goal.offset_bounds-pred1-offset
+offset_bounds-pred1-offset c = omega arith
+
+pub bounds-pred1-offset : goal.bounds-pred1-offset
+bounds-pred1-offset c = omega arith
+
+pub overflow_add-pred0-in-loop-i-4 : goal.overflow_add-pred0-in-loop-i-4
+overflow_add-pred0-in-loop-i-4 c = omega arith
+
+pub offset_bounds-pred0-offset-in-loop-i : goal.offset_bounds-pred0-offset-in-loop-i
+offset_bounds-pred0-offset-in-loop-i c = omega arith
+
+pub bounds-pred0-offset-in-loop-i : goal.bounds-pred0-offset-in-loop-i
+bounds-pred0-offset-in-loop-i c = omega arith
+
+pub overflow_step-i : goal.overflow_step-i
+overflow_step-i c = omega arith
+
+pub loop-i-smaller : goal.loop-i-smaller
+loop-i-smaller c = omega arith
+
+pub shape_of-pred0 : goal.shape_of-pred0
+shape_of-pred0 c = c.before.loop-i.invariant.1

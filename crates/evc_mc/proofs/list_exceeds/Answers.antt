@@ -1,0 +1,59 @@
+-- `evc_mc::list_exceeds` meets its contract. Assumes nothing.
+use mathlib.Core.Bool.{Bool, true, false, ◌||◌}
+use mathlib.Core.Path.{◌≡◌, refl}
+use borrow.Author.Tests.{not-true, not-false}
+use Rattle.evc_def.specs.declared.EvcBlock.{EvcBlock}
+use Rattle.evc_def.specs.declared.QpelPlace.{QpelPlace}
+use Rattle.evc_plane.specs.declared.PlaneType.TheVariants.{Y, UV}
+use Rattle.evc_clip.specs.Clip.{clipped_place}
+use Rattle.evc_interp.specs.Prediction.{window_exceeds}
+use Rattle.evc_mc.specs.Block.{RefPicList, ref_pic_list, luma, cb, cr, width_of, height_of, component_exceeds, list_exceeds}
+use Rattle.evc_mc.proofs.Checks.{sides, plane_side, list_long}
+use Rattle.evc_mc.proofs.list_exceeds.Goals as goal
+
+module _ (b : EvcBlock) (l : RefPicList) where
+  unused : l.list.used ≡ false → false ≡ list_exceeds b l
+  unfolding list_exceeds
+  unused e = simp e
+
+  exceeds_is : (gmv : QpelPlace) (p q : Bool) → l.list.used ≡ true → gmv ≡ clipped_place b l.list.mv
+      → p ≡ window_exceeds Y b.pic_w b.pic_h gmv b.w b.h l.y
+      → q ≡ window_exceeds UV b.pic_w b.pic_h gmv (width_of b cb) (height_of b cb) l.u || window_exceeds UV b.pic_w b.pic_h gmv (width_of b cr) (height_of b cr) l.v
+      → (p || q) ≡ list_exceeds b l
+  unfolding list_exceeds
+  exceeds_is gmv p q u e ep eq = rw (ep, eq, e, u) (together (component_exceeds b l luma) (component_exceeds b l cb) (component_exceeds b l cr))
+    where
+      together : (p q r : Bool) → (p || (q || r)) ≡ (p || q || r)
+      together true q r = refl
+      together false q r = refl
+
+pub returns-then-not-list : goal.returns-then-not-list
+returns-then-not-list c =
+    let a = c.before.before.before.before.before.args in
+    unused a.b (ref_pic_list a.list a.y.now a.u.now a.v.now) (not-true _ c.if-not-list.true)
+
+used : (c : goal.Else-not-list) → c.before.before.before.before.before.args.list.used ≡ true
+used c = not-false _ c.if-not-list.false
+
+pub window_exceeds-requires : goal.window_exceeds-requires
+window_exceeds-requires c =
+    let e = c.before.before in
+    let s = e.before.before.before.before.before in
+    let a = s.args in
+    let z = sides a.b s.requires.b_value.0 in record { pic_h_value = (z.picture, z.w_side, z.h_side); pic_h_in_bounds = list_long a.b (ref_pic_list a.list a.y.now a.u.now a.v.now) (used e) s.requires.v_value luma }
+
+pub windows_exceed-requires : goal.windows_exceed-requires
+windows_exceed-requires c =
+    let e = c.before.before.before in
+    let s = e.before.before.before.before.before in
+    let a = s.args in
+    let z = sides a.b s.requires.b_value.0 in
+    let l = list_long a.b (ref_pic_list a.list a.y.now a.u.now a.v.now) (used e) s.requires.v_value in record { pic_h_value = (z.picture, plane_side UV a.b.w z.w_side, plane_side UV a.b.h z.h_side); pic_h_in_bounds = (l cb, l cr) }
+
+pub returns : goal.returns
+returns c =
+    let e = c.before.before.before.before in
+    let s = e.before.before.before.before.before in
+    let a = s.args in
+    exceeds_is a.b (ref_pic_list a.list a.y.now a.u.now a.v.now) _ _ _ (used e) s.requires.b_value.1
+    c.before.window_exceeds.ensures c.windows_exceed.ensures

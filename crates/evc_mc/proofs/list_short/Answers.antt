@@ -1,0 +1,15 @@
+-- `evc_mc::list_short` meets its contract. Assumes nothing.
+use mathlib.Core.Bool.{Bool, ◌&&◌}
+use mathlib.Core.Path.{◌≡◌}
+use Rattle.evc_def.specs.declared.EvcBlock.{EvcBlock}
+use Rattle.evc_mc.specs.Block.{RefPicList, ref_pic_list, planes_short, list_short}
+use Rattle.evc_mc.proofs.list_short.Goals as goal
+
+if_used : (b : EvcBlock) (l : RefPicList) (short : Bool) → short ≡ planes_short b.pic_w b.pic_h l.y l.u l.v → (l.list.used && short) ≡ list_short b l
+unfolding list_short
+if_used b l short e = rw e
+
+pub returns : goal.returns
+returns c =
+    let a = c.before.before.before.before.before.args in
+    if_used a.b (ref_pic_list a.list a.y.now a.u.now a.v.now) _ c.before.planes_short.ensures

@@ -1,0 +1,112 @@
+-- `evc_mc::mc2_code` meets its contract: each return is at the first check that refuses. Assumes nothing.
+use mathlib.Core.Bool.{Bool, true, false, not, ◌||◌}
+use mathlib.Core.List.{List}
+use mathlib.Core.Path.{◌≡◌, sym, ap₂, ◌∙◌}
+use Prim.Native.Nat.{ℕ}
+use lib.Dec.{ltb}
+use lib.ListN.{length}
+use Rattle.evc_def.specs.Blocks.{bad_picture}
+use Rattle.evc_def.specs.Codes.{first_of, block_checks}
+use Rattle.evc_def.specs.declared.EvcBlock.{EvcBlock}
+use Rattle.evc_def.proofs.Codes.{refused, passed, none, goes_on}
+use Rattle.evc_int.proofs.Bools.{none_true}
+use Rattle.evc_mc.specs.Block.{RefPicList, ref_pic_list, list_short, poc_exceeds, list_exceeds, pred_len, mc2_code}
+use Rattle.evc_mc.proofs.Checks.{sides}
+use Rattle.evc_mc.proofs.mc2_code.Goals as goal
+
+module _ (b : EvcBlock) (l m : RefPicList) (p q : List ℕ) where
+  module _ (good : first_of (block_checks b) ≡ 0) where
+    code_3 : not (l.list.used || m.list.used) ≡ true → 3 ≡ mc2_code b l m p q
+    unfolding mc2_code
+    code_3 e = sym (goes_on 0 (block_checks b) _ tt good ∙ refused _ _ _ e)
+
+    module _ (some : not (l.list.used || m.list.used) ≡ false) where
+      code_4 : (list_short b l || list_short b m || ltb (length p) pred_len || ltb (length q) pred_len) ≡ true → 4 ≡ mc2_code b l m p q
+      unfolding mc2_code
+      code_4 e = sym (goes_on 0 (block_checks b) _ tt good ∙ passed _ _ _ some ∙ refused _ _ _ e)
+
+      module _ (long : (list_short b l || list_short b m || ltb (length p) pred_len || ltb (length q) pred_len) ≡ false) where
+        code_5 : (poc_exceeds l.list || poc_exceeds m.list) ≡ true → 5 ≡ mc2_code b l m p q
+        unfolding mc2_code
+        code_5 e = sym (goes_on 0 (block_checks b) _ tt good ∙ passed _ _ _ some ∙ passed _ _ _ long ∙ refused _ _ _ e)
+
+        module _ (counts : (poc_exceeds l.list || poc_exceeds m.list) ≡ false) where
+          code_6 : (list_exceeds b l || list_exceeds b m) ≡ true → 6 ≡ mc2_code b l m p q
+          unfolding mc2_code
+          code_6 e = sym (goes_on 0 (block_checks b) _ tt good ∙ passed _ _ _ some ∙ passed _ _ _ long ∙ passed _ _ _ counts ∙ refused _ _ _ e)
+
+          code_0 : (list_exceeds b l || list_exceeds b m) ≡ false → 0 ≡ mc2_code b l m p q
+          unfolding mc2_code
+          code_0 e = sym (goes_on 0 (block_checks b) _ tt good ∙ passed _ _ _ some ∙ passed _ _ _ long ∙ passed _ _ _ counts ∙ passed _ _ _ e ∙ none)
+
+either_is : (a b c d : Bool) → a ≡ c → b ≡ d → (a || b) ≡ (c || d)
+either_is a b c d e f = ap₂ ◌||◌ e f
+
+abbrev start : goal.Else-not-list0-list1 → goal.Start
+start c = c.before.before.before.before.before.before.before.before.before.before.before
+
+pub returns-then-not-list0-list1 : goal.returns-then-not-list0-list1
+returns-then-not-list0-list1 c = code_3 _ _ _ _ _ c.before.before.before.before.before.before.before.before.before.before.before.requires.0 c.if-not-list0-list1.true
+
+picture : (c : goal.Else-not-list0-list1) → bad_picture (start c).args.b.pic_w (start c).args.b.pic_h ≡ false
+picture c = (sides _ (start c).requires.0).picture
+
+-- the tests of the code are those of the definition
+short : (c : goal.After-list_short-2) → let a = (start c.before.before).args in
+    (c.before.list_short.result || c.list_short-2.result || ltb (length a.pred0.now) pred_len || ltb (length a.pred1.now) pred_len)
+    ≡ (list_short a.b (ref_pic_list a.list0 a.y0.now a.u0.now a.v0.now) || list_short a.b (ref_pic_list a.list1 a.y1.now a.u1.now a.v1.now) || ltb (length a.pred0.now) pred_len || ltb (length a.pred1.now) pred_len)
+short c =
+    let a = (start c.before.before).args in
+    ap₂ (λ (s t : Bool). s || t || ltb (length a.pred0.now) pred_len || ltb (length a.pred1.now) pred_len) c.before.list_short.ensures c.list_short-2.ensures
+
+pub returns-then-list_short-pred0 : goal.returns-then-list_short-pred0
+returns-then-list_short-pred0 c =
+    let e = c.before.before.before in
+    code_4 _ _ _ _ _ (start e).requires.0 e.if-not-list0-list1.false (sym (short c.before) ∙ c.if-list_short-pred0.true)
+
+poc : (c : goal.After-poc_exceeds-2) → let a = (start c.before.before.before.before.before).args in
+    (c.before.poc_exceeds.result || c.poc_exceeds-2.result) ≡ (poc_exceeds a.list0 || poc_exceeds a.list1)
+poc c = ap₂ ◌||◌ c.before.poc_exceeds.ensures c.poc_exceeds-2.ensures
+
+pub returns-then-poc_exceeds : goal.returns-then-poc_exceeds
+returns-then-poc_exceeds c =
+    let f = c.before.before.before in
+    let e = f.before.before.before in
+    code_5 _ _ _ _ _ (start e).requires.0 e.if-not-list0-list1.false (sym (short f.before) ∙ f.if-list_short-pred0.false) (sym (poc c.before) ∙ c.if-poc_exceeds.true)
+
+-- no plane is short
+long : (f : goal.Else-list_short-pred0) → let a = (start f.before.before.before).args in
+    (list_short a.b (ref_pic_list a.list0 a.y0.now a.u0.now a.v0.now) ≡ false) × (list_short a.b (ref_pic_list a.list1 a.y1.now a.u1.now a.v1.now) ≡ false)
+long f = none_true _ _ (none_true _ _ (none_true _ _ (sym (short f.before) ∙ f.if-list_short-pred0.false)).0).0
+
+pub list_exceeds-requires : goal.list_exceeds-requires
+list_exceeds-requires c =
+    let f = c.before.before.before in
+    let s = start f.before.before.before in record { b_value = (s.requires.0, s.requires.1); v_value = (long f).0 }
+
+pub list_exceeds-requires-2 : goal.list_exceeds-requires-2
+list_exceeds-requires-2 c =
+    let f = c.before.before.before.before in
+    let s = start f.before.before.before in record { b_value = (s.requires.0, s.requires.2); v_value = (long f).1 }
+
+pub returns-then-list_exceeds : goal.returns-then-list_exceeds
+returns-then-list_exceeds c =
+    let g = c.before.before.before in
+    let f = g.before.before.before in
+    let e = f.before.before.before in
+    code_6 _ _ _ _ _ (start e).requires.0 e.if-not-list0-list1.false (sym (short f.before) ∙ f.if-list_short-pred0.false) (sym (poc g.before) ∙ g.if-poc_exceeds.false)
+    (sym (either_is _ _ _ _ c.before.before.list_exceeds.ensures c.before.list_exceeds-2.ensures) ∙ c.if-list_exceeds.true)
+
+pub returns : goal.returns
+returns c =
+    let g = c.before.before.before in
+    let f = g.before.before.before in
+    let e = f.before.before.before in
+    code_0 _ _ _ _ _ (start e).requires.0 e.if-not-list0-list1.false (sym (short f.before) ∙ f.if-list_short-pred0.false) (sym (poc g.before) ∙ g.if-poc_exceeds.false)
+    (sym (either_is _ _ _ _ c.before.before.list_exceeds.ensures c.before.list_exceeds-2.ensures) ∙ c.if-list_exceeds.false)
+
+pub list_short-requires : goal.list_short-requires
+list_short-requires c = picture c
+
+pub list_short-requires-2 : goal.list_short-requires-2
+list_short-requires-2 c = picture c.before

@@ -1,0 +1,40 @@
+-- `evc_motion::flag_outside` meets its contract. Assumes nothing.
+use mathlib.Core.Bool.{Bool, true, false, not, ◌&&◌, ◌||◌, and-false}
+use mathlib.Core.Path.{◌≡◌, refl, sym, ◌∙◌}
+use Prim.Native.Nat.{ℕ, ◌+◌}
+use borrow.Author.Tests.{not-true}
+use lib.Dec.{eqb}
+use Rattle.evc_int.proofs.Bools.{both_true}
+use Rattle.evc_def.specs.Tables.{is_bit}
+use Rattle.evc_def.specs.declared.EvcBlock.{EvcBlock}
+use Rattle.evc_motion.specs.Candidates.{flag_outside}
+use Rattle.evc_motion.proofs.flag_outside.Goals as goal
+
+not_not : (t : Bool) → not (not t) ≡ t
+not_not true = refl
+not_not false = refl
+
+module _ (b : EvcBlock) (avail : ℕ) (right : Bool) (e : right ≡ not (eqb (b.x + b.w) b.pic_w)) where
+  inner : (not (eqb b.x 0) && not (eqb b.y 0) && right) ≡ true → false ≡ flag_outside b avail
+  unfolding flag_outside
+  inner t =
+      let p = both_true (not (eqb b.x 0) && not (eqb b.y 0)) right t in
+      let q = both_true (not (eqb b.x 0)) (not (eqb b.y 0)) p.0 in
+      rw (not-true (eqb b.x 0) q.0, not-true (eqb b.y 0) q.1, not-true (eqb (b.x + b.w) b.pic_w) (sym e ∙ p.1)) (simp and-false)
+
+  at_edge : (le up up-ri : Bool) → le ≡ is_bit 1 avail → up ≡ is_bit 0 avail → up-ri ≡ is_bit 6 avail → ((le && eqb b.x 0) || (up && eqb b.y 0) || (up-ri && (eqb b.y 0 || not right))) ≡ flag_outside b avail
+  unfolding flag_outside
+  at_edge le up up-ri p q r = rw (p, q, r, e, not_not (eqb (b.x + b.w) b.pic_w))
+
+pub returns-then-b-right : goal.returns-then-b-right
+returns-then-b-right c =
+    let r = c.before.before.before in
+    inner r.before.args.b r.before.args.avail _ r.Has-right.ensures c.if-b-right.true
+
+pub returns-else-b-right : goal.returns-else-b-right
+returns-else-b-right c =
+    let g = c.before in
+    let f = g.before.before in
+    let e = f.before.before in
+    let r = e.before.before.before.before in
+    at_edge r.before.args.b r.before.args.avail _ r.Has-right.ensures _ _ _ e.GET_AVAIL_FLAG.ensures f.GET_AVAIL_FLAG-else-b-right.ensures g.GET_AVAIL_FLAG-else-b-right-2.ensures

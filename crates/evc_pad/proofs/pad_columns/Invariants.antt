@@ -1,0 +1,13 @@
+-- `evc_pad::pad_columns` meets its contract. The invariant: the first y rows are filled; the column that is read stays. Assumes nothing.
+use Prim.Native.Nat.{◌+◌, ◌-◌, ◌≤◌}
+use mathlib.Core.Path.{◌≡◌}
+use lib.ListN.{length}
+use Rattle.evc_int.specs.Lists.{with_block}
+use Rattle.evc_pad.proofs.pad_columns.Given as goal
+
+abbrev pub invariant-loop-y : goal.invariant-loop-y
+invariant-loop-y l =
+    (l.y ≤ l.h) × (length l.plane ≡ length l.initial.plane) × (l.plane ≡ with_block l.initial.plane (l.base + l.x) l.stride l.n l.y (column l.initial.plane l.base l.stride l.from))
+
+abbrev pub decreases-loop-y : goal.decreases-loop-y
+decreases-loop-y l = l.h - l.y

@@ -1,0 +1,36 @@
+-- `evc_plane::plane_config` meets its contract: the record that is made is the one that the definition names. Assumes nothing.
+use mathlib.Core.Path.{◌≡◌}
+use Prim.Native.Nat.{ℕ, ◌+◌, ◌*◌, ◌/◌}
+use native.Mathlib.Omega.{arith}
+use Rattle.evc_plane.specs.declared.PlaneType.{PlaneType}
+use Rattle.evc_plane.specs.Planes.{pad_of, origin_of, side_of, stride_of, rows_of, config_of}
+use Rattle.evc_plane.proofs.Sizes.{Sizes, sizes}
+use Rattle.evc_plane.proofs.plane_config.Goals as goal
+
+made : (t : PlaneType) (W H o p w h : ℕ) → o ≡ origin_of t → p ≡ pad_of t → w ≡ side_of t W → h ≡ side_of t H → record { stride = (o + w + p + 15) / 16 * 16; alloc_height = p + h + p; width = w; height = h; xorigin = o; yorigin = p } ≡ config_of t W H
+unfolding config_of stride_of rows_of
+made t W H o p w h a b c d = simp (a, b, c, d)
+
+small : (c : goal.After-side-height) → Sizes (config_of c.before.before.before.before.args.t c.before.before.before.before.args.pic_w c.before.before.before.before.args.pic_h)
+small c = sizes _ _ _ c.before.before.before.before.requires
+
+pub returns : goal.returns
+returns c = made _ _ _ _ _ _ _ c.before.before.before.xorigin-xorigin.ensures c.before.before.pad_size-pad.ensures c.before.side-width.ensures c.side-height.ensures
+
+pub overflow_add-result : goal.overflow_add-result
+overflow_add-result c = let z = small c in omega arith
+
+pub overflow_add-result-2 : goal.overflow_add-result-2
+overflow_add-result-2 c = let z = small c in omega arith
+
+pub overflow_add-result-3 : goal.overflow_add-result-3
+overflow_add-result-3 c = let z = small c in omega arith
+
+pub overflow_mul-result : goal.overflow_mul-result
+overflow_mul-result c = let z = small c in omega arith
+
+pub overflow_add-result-4 : goal.overflow_add-result-4
+overflow_add-result-4 c = let z = small c in omega arith
+
+pub overflow_add-result-5 : goal.overflow_add-result-5
+overflow_add-result-5 c = let z = small c in omega arith

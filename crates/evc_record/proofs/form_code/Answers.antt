@@ -1,0 +1,51 @@
+-- `evc_record::form_code` meets its contract. Assumes nothing.
+use borrow.Author.Rules.{rules}
+use mathlib.Core.Bool.{Bool, true, false, not, ◌&&◌}
+use mathlib.Core.List.{List}
+use mathlib.Core.Path.{◌≡◌, sym, ap, ◌∙◌}
+use Prim.Native.Nat.{ℕ, ◌≤◌, ◌<◌}
+use borrow.Author.Tests.{lt-ltb, le-ltb}
+use lib.Dec.{eqb}
+use lib.ListN.{length, get_or}
+use Rattle.evc_def.proofs.Codes.{refused, passed, none}
+use Rattle.evc_trace.specs.Format.{is_well_formed, record_of}
+use Rattle.evc_record.specs.Record.{form_code}
+use Rattle.evc_record.proofs.form_code.Goals as goal
+
+module _ (s : List ℕ) where
+  code_11 : length s < 22 → 11 ≡ form_code s
+  unfolding form_code
+  code_11 l = sym (refused _ _ _ (lt-ltb _ _ l))
+
+  code_12 : 22 ≤ length s → not (is_well_formed (record_of 2 s) && eqb (get_or s 21 0) 0) ≡ true → 12 ≡ form_code s
+  unfolding form_code
+  code_12 l e = sym (passed _ _ _ (le-ltb _ _ l) ∙ refused _ _ _ e)
+
+  code_0 : 22 ≤ length s → not (is_well_formed (record_of 2 s) && eqb (get_or s 21 0) 0) ≡ false → 0 ≡ form_code s
+  unfolding form_code
+  code_0 l e = sym (passed _ _ _ (le-ltb _ _ l) ∙ passed _ _ _ e ∙ none)
+
+-- the test of the code is that of the definition
+test : (c : goal.After-shared_slice_known-2-1) → let s = c.before.before.before.before.before.args.s.now in
+    not (c.before.is_well_formed.result && eqb (get_or s 21 0) 0) ≡ not (is_well_formed (record_of 2 s) && eqb (get_or s 21 0) 0)
+test c =
+    let s = c.before.before.before.before.before.args.s.now in
+    ap (λ (t : Bool). not (t && eqb (get_or s 21 0) 0)) (c.before.is_well_formed.ensures ∙ ap is_well_formed c.before.before.read_record-r.ensures)
+
+pub returns-then-s-lt-RECORD_LEN : goal.returns-then-s-lt-RECORD_LEN
+returns-then-s-lt-RECORD_LEN c = code_11 _ c.if-s-lt-RECORD_LEN.true
+
+pub read_record-r-requires : goal.read_record-r-requires
+read_record-r-requires c = search rules
+
+pub is_well_formed-requires : goal.is_well_formed-requires
+is_well_formed-requires c = search rules
+
+pub bounds-s-21 : goal.bounds-s-21
+bounds-s-21 c = search rules
+
+pub returns-then-not-is_well_formed-s : goal.returns-then-not-is_well_formed-s
+returns-then-not-is_well_formed-s c = code_12 _ c.before.before.before.before.if-s-lt-RECORD_LEN.false (sym (test c.before) ∙ c.if-not-is_well_formed-s.true)
+
+pub returns : goal.returns
+returns c = code_0 _ c.before.before.before.before.if-s-lt-RECORD_LEN.false (sym (test c.before) ∙ c.if-not-is_well_formed-s.false)

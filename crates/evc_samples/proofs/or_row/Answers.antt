@@ -1,0 +1,34 @@
+-- `evc_samples::or_row` meets its contract. The invariant: o stands for the first x samples. Assumes nothing.
+use mathlib.Core.Path.{◌≡◌, ap, ◌∙◌}
+use native.Mathlib.Nat.{zero-add}
+use native.Mathlib.Omega.{arith}
+use Rattle.evc_samples.specs.Samples.{row_exceeds}
+use Rattle.evc_samples.proofs.Samples.{row_none, row_more}
+use Rattle.evc_samples.proofs.or_row.Goals as goal
+
+pub loop-x-init : goal.loop-x-init
+loop-x-init c = (omega arith, row_none _ _)
+
+pub loop-x-preserved : goal.loop-x-preserved
+loop-x-preserved c =
+    let i = c.before.before.before.loop-x in
+    (omega arith, row_more _ _ _ _ _ i.invariant.1 (rw (zero-add i.x) c.gather-o.ensures))
+
+pub returns : goal.returns
+returns c =
+    let i = c.before.loop-x in
+    let z = c.before.before.before.args in
+    let e : i.x ≡ z.n = omega arith in
+    i.invariant.1 ∙ ap (row_exceeds z.row.now 0) e
+
+pub offset_bounds-row-x : goal.offset_bounds-row-x
+offset_bounds-row-x c = omega arith
+
+pub bounds-row-x : goal.bounds-row-x
+bounds-row-x c = omega arith
+
+pub overflow_step-x : goal.overflow_step-x
+overflow_step-x c = omega arith
+
+pub loop-x-smaller : goal.loop-x-smaller
+loop-x-smaller c = omega arith

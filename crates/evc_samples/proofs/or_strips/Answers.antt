@@ -1,0 +1,49 @@
+-- `evc_samples::or_strips` meets its contract. The invariant: o stands for the last sixteen columns and the first x. Assumes nothing.
+use Prim.Native.Nat.{◌+◌, ◌-◌, ◌<◌}
+use mathlib.Core.Path.{◌∙◌}
+use native.Mathlib.Omega.{arith}
+use Rattle.evc_int.proofs.Lists.{row_fits}
+use Rattle.evc_samples.specs.Samples.{exceeds}
+use Rattle.evc_samples.proofs.Samples.{columns_more, columns_begin, columns_all}
+use Rattle.evc_samples.proofs.or_strips.Goals as goal
+
+pub loop-x-init : goal.loop-x-init
+loop-x-init c = (omega arith, columns_begin _ _ _ _ _ _ c.or_rows8-o.ensures)
+
+pub loop-x-preserved : goal.loop-x-preserved
+loop-x-preserved c =
+    let z = c.before.before.before.before.before.before.args in
+    let i = c.before.before.before.loop-x in (
+      omega arith,
+      columns_more z.s.now z.at z.stride z.h i.x 16 (exceeds z.s.now (z.at + z.n - 16) z.stride 16 z.h) _ _ _ i.invariant.1 c.before.or_rows8.ensures c.gather-o.ensures,
+    )
+
+pub returns : goal.returns
+returns c =
+    let i = c.before.loop-x in
+    let z = c.before.before.before.before.args in
+    i.invariant.1 ∙ columns_all z.s.now z.at z.stride z.h z.n i.x 16 (omega arith) (omega arith) (omega arith)
+
+pub overflow_add-at : goal.overflow_add-at
+overflow_add-at c = let p : 0 < c.before.args.h = omega arith in let r = row_fits c.before.args.stride p in omega arith
+
+pub overflow_sub-at : goal.overflow_sub-at
+overflow_sub-at c = omega arith
+
+pub or_rows8-o-requires : goal.or_rows8-o-requires
+or_rows8-o-requires c = omega arith
+
+pub overflow_add-x : goal.overflow_add-x
+overflow_add-x c = let p : 0 < c.before.before.before.args.h = omega arith in let r = row_fits c.before.before.before.args.stride p in omega arith
+
+pub overflow_add-at-in-loop-x : goal.overflow_add-at-in-loop-x
+overflow_add-at-in-loop-x c = let p : 0 < c.before.before.before.before.args.h = omega arith in let r = row_fits c.before.before.before.before.args.stride p in omega arith
+
+pub or_rows8-requires : goal.or_rows8-requires
+or_rows8-requires c = omega arith
+
+pub overflow_add-x-in-loop-x : goal.overflow_add-x-in-loop-x
+overflow_add-x-in-loop-x c = omega arith
+
+pub loop-x-smaller : goal.loop-x-smaller
+loop-x-smaller c = omega arith

@@ -1,0 +1,56 @@
+-- `evc_trace::evc_trace_write_record` meets its contract. Assumes nothing.
+use borrow.Author.Rules.{rules}
+use mathlib.Core.Bool.{true, false, not}
+use mathlib.Core.List.{List}
+use mathlib.Core.Path.{◌≡◌, sym, ap, ◌∙◌}
+use Prim.Native.Nat.{ℕ, ◌≤◌, ◌<◌}
+use native.Mathlib.Omega.{arith}
+use borrow.Author.Tests.{lt-ltb, le-ltb}
+use lib.ListN.{length}
+use Rattle.evc_def.specs.Blocks.{bad_picture}
+use Rattle.evc_def.proofs.Codes.{refused, passed, none}
+use Rattle.evc_trace.specs.Format.{is_well_formed, write_record_code}
+use Rattle.evc_trace.specs.declared.EvcTraceRecord.{EvcTraceRecord}
+use Rattle.evc_trace.proofs.Written.{kept, wrote}
+use Rattle.evc_trace.proofs.evc_trace_write_record.Goals as goal
+
+module _ (W H : ℕ) (r : EvcTraceRecord) (d : List ℕ) where
+  code_1 : bad_picture W H ≡ true → 1 ≡ write_record_code W H r d
+  unfolding write_record_code
+  code_1 e = sym (refused _ _ _ e)
+
+  code_4 : bad_picture W H ≡ false → length d < 22 → 4 ≡ write_record_code W H r d
+  unfolding write_record_code
+  code_4 e l = sym (passed _ _ _ e ∙ refused _ _ _ (lt-ltb _ _ l))
+
+  code_12 : bad_picture W H ≡ false → 22 ≤ length d → not (is_well_formed r) ≡ true → 12 ≡ write_record_code W H r d
+  unfolding write_record_code
+  code_12 e l f = sym (passed _ _ _ e ∙ passed _ _ _ (le-ltb _ _ l) ∙ refused _ _ _ f)
+
+  code_0 : bad_picture W H ≡ false → 22 ≤ length d → not (is_well_formed r) ≡ false → 0 ≡ write_record_code W H r d
+  unfolding write_record_code
+  code_0 e l f = sym (passed _ _ _ e ∙ passed _ _ _ (le-ltb _ _ l) ∙ passed _ _ _ f ∙ none)
+
+pub bad_picture-requires : goal.bad_picture-requires
+bad_picture-requires c = search rules
+
+pub returns-then-bad_picture : goal.returns-then-bad_picture
+returns-then-bad_picture c = let e = code_1 _ _ _ _ (sym c.before.bad_picture.ensures ∙ c.if-bad_picture.true) in record { value = e; out_after = kept _ _ _ _ e (λ z. omega arith) }
+
+pub returns-then-out-lt-RECORD_LEN : goal.returns-then-out-lt-RECORD_LEN
+returns-then-out-lt-RECORD_LEN c = let e = code_4 _ _ _ _ (sym c.before.before.bad_picture.ensures ∙ c.before.if-bad_picture.false) c.if-out-lt-RECORD_LEN.true in record { value = e; out_after = kept _ _ _ _ e (λ z. omega arith) }
+
+pub is_well_formed-requires : goal.is_well_formed-requires
+is_well_formed-requires c = search rules
+
+pub returns-then-not-is_well_formed : goal.returns-then-not-is_well_formed
+returns-then-not-is_well_formed c = let e = code_12 _ _ _ _ (sym c.before.before.before.before.bad_picture.ensures ∙ c.before.before.before.if-bad_picture.false) c.before.before.if-out-lt-RECORD_LEN.false (ap not (sym c.before.is_well_formed.ensures) ∙ c.if-not-is_well_formed.true) in record { value = e; out_after = kept _ _ _ _ e (λ z. omega arith) }
+
+pub put_record-requires : goal.put_record-requires
+put_record-requires c = search rules
+
+pub shape_of-out : goal.shape_of-out
+shape_of-out c = search rules
+
+pub returns : goal.returns
+returns c = let e = code_0 _ _ _ _ (sym c.before.before.before.before.before.before.before.before.bad_picture.ensures ∙ c.before.before.before.before.before.before.before.if-bad_picture.false) c.before.before.before.before.before.before.if-out-lt-RECORD_LEN.false (ap not (sym c.before.before.before.before.before.is_well_formed.ensures) ∙ c.before.before.before.before.if-not-is_well_formed.false) in record { value = e; out_after = wrote _ _ _ _ e c.before.before.put_record.ensures }

@@ -1,0 +1,30 @@
+-- `evc_trace::is_trace` meets its contract. Assumes nothing.
+use borrow.Author.Rules.{rules}
+use mathlib.Core.Bool.{◌&&◌}
+use mathlib.Core.List.{List}
+use mathlib.Core.Path.{◌≡◌}
+use Prim.Native.Nat.{ℕ}
+use lib.Dec.{eqb}
+use lib.ListN.{get_or}
+use Rattle.evc_bytes.specs.Bytes.{number_at}
+use Rattle.evc_trace.specs.Format.{is_trace}
+use Rattle.evc_trace.proofs.is_trace.Goals as goal
+
+marked : (s : List ℕ) (v : ℕ) → v ≡ number_at 2 s 3 → (eqb (get_or s 0 0) 73 && eqb (get_or s 1 0) 80 && eqb (get_or s 2 0) 84 && eqb v 1) ≡ is_trace 1 s
+unfolding is_trace
+marked s v e = rw e
+
+pub u16_at-version-requires : goal.u16_at-version-requires
+u16_at-version-requires c = search rules
+
+pub bounds-s-0 : goal.bounds-s-0
+bounds-s-0 c = search rules
+
+pub bounds-s-1 : goal.bounds-s-1
+bounds-s-1 c = search rules
+
+pub bounds-s-2 : goal.bounds-s-2
+bounds-s-2 c = search rules
+
+pub returns : goal.returns
+returns c = marked _ _ c.before.before.before.u16_at-version.ensures

@@ -1,0 +1,22 @@
+-- `evc_trace::put_header` meets its contract. Assumes nothing.
+use borrow.Author.Rules.{rules}
+use Rattle.evc_bytes.proofs.Written.{joined}
+use Rattle.evc_trace.proofs.Written.{from_start}
+use Rattle.evc_trace.proofs.put_header.Goals as goal
+
+pub put_mark-requires : goal.put_mark-requires
+put_mark-requires c = search rules
+
+pub put_pair-requires : goal.put_pair-requires
+put_pair-requires c = search rules
+
+pub put_pair-requires-2 : goal.put_pair-requires-2
+put_pair-requires-2 c = search rules
+
+pub shape_of-out : goal.shape_of-out
+shape_of-out c = search rules
+
+pub returns : goal.returns
+returns c =
+    let s = c.before.before.before.before.before.before.before.before.before.before.before.before.before in
+    from_start _ _ _ (joined _ _ _ 0 _ _ (joined _ _ _ 0 _ _ c.before.before.before.before.before.before.before.before.before.before.put_mark.ensures c.before.before.before.before.before.before.put_pair.ensures) c.before.before.put_pair-2.ensures) s.requires

@@ -1,0 +1,39 @@
+-- `evc_trace::put_record` meets its contract. Assumes nothing.
+use borrow.Author.Rules.{rules}
+use Rattle.evc_bytes.proofs.Written.{joined}
+use Rattle.evc_trace.proofs.Written.{from_start}
+use Rattle.evc_trace.proofs.put_record.Goals as goal
+
+pub put_pair-requires : goal.put_pair-requires
+put_pair-requires c = search rules
+
+pub put_pair-requires-2 : goal.put_pair-requires-2
+put_pair-requires-2 c = search rules
+
+pub put_u8-requires : goal.put_u8-requires
+put_u8-requires c = search rules
+
+pub put_mv-requires : goal.put_mv-requires
+put_mv-requires c = search rules
+
+pub put_mv-requires-2 : goal.put_mv-requires-2
+put_mv-requires-2 c = search rules
+
+pub put_pair-requires-3 : goal.put_pair-requires-3
+put_pair-requires-3 c = search rules
+
+pub put_u8-requires-2 : goal.put_u8-requires-2
+put_u8-requires-2 c = search rules
+
+pub shape_of-out : goal.shape_of-out
+shape_of-out c = search rules
+
+pub returns : goal.returns
+returns c =
+    let e0 = c.before.before.before.before.before.before.before.before.before.before.before.before.before.before.before.before.before.before.before.before.before.before.before.before.before.before.put_pair.ensures in
+    let e1 = joined _ _ _ 0 _ _ e0 c.before.before.before.before.before.before.before.before.before.before.before.before.before.before.before.before.before.before.before.before.before.before.put_pair-2.ensures in
+    let e2 = joined _ _ _ 0 _ _ e1 c.before.before.before.before.before.before.before.before.before.before.before.before.before.before.before.before.before.before.put_u8.ensures in
+    let e3 = joined _ _ _ 0 _ _ e2 c.before.before.before.before.before.before.before.before.before.before.before.before.before.before.put_mv.ensures in
+    let e4 = joined _ _ _ 0 _ _ e3 c.before.before.before.before.before.before.before.before.before.before.put_mv-2.ensures in
+    let e5 = joined _ _ _ 0 _ _ e4 c.before.before.before.before.before.before.put_pair-3.ensures in
+    from_start _ _ _ (joined _ _ _ 0 _ _ e5 c.before.before.put_u8-2.ensures) c.before.before.before.before.before.before.before.before.before.before.before.before.before.before.before.before.before.before.before.before.before.before.before.before.before.before.before.before.before.requires

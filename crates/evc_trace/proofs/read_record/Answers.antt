@@ -1,0 +1,45 @@
+-- `evc_trace::read_record` meets its contract. Assumes nothing.
+use borrow.Author.Rules.{rules}
+use mathlib.Core.List.{List}
+use mathlib.Core.Path.{◌≡◌}
+use Prim.Native.Nat.{ℕ}
+use lib.ListN.{get_or}
+use Rattle.evc_def.specs.declared.EvcMv.{EvcMv}
+use Rattle.evc_bytes.specs.Bytes.{number_at}
+use Rattle.evc_trace.specs.Format.{mv_of, record_of}
+use Rattle.evc_trace.proofs.read_record.Goals as goal
+
+made : (s : List ℕ) (x y w h p q : ℕ) (u v : EvcMv) → x ≡ number_at 2 s 0 → y ≡ number_at 2 s 2 → w ≡ number_at 2 s 4 → h ≡ number_at 2 s 6 → u ≡ mv_of s 9 → v ≡ mv_of s 13 → p ≡ number_at 2 s 17 → q ≡ number_at 2 s 19
+    → record { x = x; y = y; w = w; h = h; kind = get_or s 8 0; mv0 = u; mv1 = v; poc0 = p; poc1 = q } ≡ record_of 2 s
+unfolding record_of
+made s x y w h p q u v e₀ e₁ e₂ e₃ e₄ e₅ e₆ e₇ = simp (e₀, e₁, e₂, e₃, e₄, e₅, e₆, e₇)
+
+pub u16_at-requires : goal.u16_at-requires
+u16_at-requires c = search rules
+
+pub u16_at-requires-2 : goal.u16_at-requires-2
+u16_at-requires-2 c = search rules
+
+pub u16_at-requires-3 : goal.u16_at-requires-3
+u16_at-requires-3 c = search rules
+
+pub u16_at-requires-4 : goal.u16_at-requires-4
+u16_at-requires-4 c = search rules
+
+pub bounds-s-8 : goal.bounds-s-8
+bounds-s-8 c = search rules
+
+pub mv_at-requires : goal.mv_at-requires
+mv_at-requires c = search rules
+
+pub mv_at-requires-2 : goal.mv_at-requires-2
+mv_at-requires-2 c = search rules
+
+pub u16_at-requires-5 : goal.u16_at-requires-5
+u16_at-requires-5 c = search rules
+
+pub u16_at-requires-6 : goal.u16_at-requires-6
+u16_at-requires-6 c = search rules
+
+pub returns : goal.returns
+returns c = made _ _ _ _ _ _ _ _ _ c.before.before.before.before.before.before.before.before.u16_at.ensures c.before.before.before.before.before.before.before.u16_at-2.ensures c.before.before.before.before.before.before.u16_at-3.ensures c.before.before.before.before.before.u16_at-4.ensures c.before.before.before.mv_at.ensures c.before.before.mv_at-2.ensures c.before.u16_at-5.ensures c.u16_at-6.ensures
