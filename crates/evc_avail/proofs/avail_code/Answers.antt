@@ -5,12 +5,12 @@ use Rattle.evc_def.proofs.Codes.{refused, passed, none, stops, goes_on}
 use Rattle.evc_def.proofs.Blocks.{allowed_block}
 use Rattle.evc_avail.proofs.avail_code.Goals as goal
 
-accepted : (c : goal.Else-code-ne0) → first_of (block_checks c.before.before.args.b) ≡ 0
-accepted c = sym c.before.block_code-code.ensures ∙ c.if-code-ne0.false
+accepted : (c : goal.Else-code-ne0) → first_of (block_checks c.args.b) ≡ 0
+accepted c = sym c.block_code-code.ensures ∙ c.if-code-ne0.false
 
 pub returns-then-code-ne0 : goal.returns-then-code-ne0
 returns-then-code-ne0 c =
-    let e = c.before.block_code-code.ensures in
+    let e = c.block_code-code.ensures in
     e ∙ sym (stops (block_checks _) _ (λ z. c.if-code-ne0.true (e ∙ z)))
 
 pub words_short-requires : goal.words_short-requires
@@ -18,8 +18,8 @@ words_short-requires c = let k = allowed_block _ (accepted c) in (k.0.size_high,
 
 pub returns-then-words_short : goal.returns-then-words_short
 returns-then-words_short c =
-    sym (goes_on 0 (block_checks _) _ tt (accepted c.before.before) ∙ refused _ _ _ (sym c.before.words_short.ensures ∙ c.if-words_short.true))
+    sym (goes_on 0 (block_checks _) _ tt (accepted c.before.before) ∙ refused _ _ _ (sym c.words_short.ensures ∙ c.if-words_short.true))
 
 pub returns : goal.returns
 returns c =
-    sym (goes_on 0 (block_checks _) _ tt (accepted c.before.before) ∙ passed _ _ _ (sym c.before.words_short.ensures ∙ c.if-words_short.false) ∙ none)
+    sym (goes_on 0 (block_checks _) _ tt (accepted c.before.before) ∙ passed _ _ _ (sym c.words_short.ensures ∙ c.if-words_short.false) ∙ none)

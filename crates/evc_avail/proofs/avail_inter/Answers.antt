@@ -3,4 +3,4 @@ use Rattle.evc_avail.proofs.Flags.{all_flags}
 use Rattle.evc_avail.proofs.avail_inter.Goals as goal
 
 pub returns : goal.returns
-returns c = all_flags _ _ _ _ _ _ c.before.before.avail_left-left.ensures.0 c.avail_up.ensures.0 c.before.avail_right-right.ensures.0
+returns c = all_flags _ _ _ _ _ _ c.avail_left-left.ensures.0 c.avail_up.ensures.0 c.avail_right-right.ensures.0

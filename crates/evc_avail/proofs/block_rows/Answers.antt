@@ -3,12 +3,15 @@ use Rattle.std.proofs.Common.{◌*◌, ◌≤◌, ap₂, arith}
 use Rattle.evc_map.specs.Maps.{most_units}
 use Rattle.evc_map.proofs.Units.{units_small}
 use Rattle.evc_avail.proofs.block_rows.Goals as goal
+use Rattle.evc_avail.proofs.block_rows.Lts as place
+use Rattle.evc_avail.proofs.block_rows.Reads.{Pre, Post}
+use Rattle.evc_avail.proofs.block_rows.Tie.{the-claims as claims}
 
-small : (c : goal.After-scu-2) → c.before.scu.result.0 * c.scu-2.result.0 ≤ most_units
-small c = let p = c.before.before.requires in units_small _ _ (omega (arith, c.before.scu.ensures)) (omega (arith, c.scu-2.ensures))
+small : (c : place.After-scu2 claims Pre Post) → c.scu.result.0 * c.scu-2.result.0 ≤ most_units
+small c = let p = c.requires in units_small _ _ (omega (arith, c.scu.ensures)) (omega (arith, c.scu-2.ensures))
 
 pub returns : goal.returns
-returns c = let k = c.before.before in (ap₂ ◌*◌ k.before.scu.ensures k.scu-2.ensures, small k)
+returns c = (ap₂ ◌*◌ c.scu.ensures c.scu-2.ensures, small c.before.before)
 
 pub overflow_mul-result : goal.overflow_mul-result
 overflow_mul-result c = record { fits = let s = small c.before.before in omega arith }

@@ -5,7 +5,5 @@ use Rattle.evc_avail.proofs.is_not_intra.Goals as goal
 
 pub returns : goal.returns
 returns c =
-    let n = c.before in
-    let s = n.before in
-    rw (sym s.before.mcu_at.ensures)
-    (ap₂ (λ (k : ℕ) (t : Bool). eqb k 0 && not t) n.GET_SN.ensures c.GET_IF.ensures ∙ not_intra_seen _ _ _ s.seen-mcu.ensures)
+    rw (sym c.mcu_at.ensures)
+    (ap₂ (λ (k : ℕ) (t : Bool). eqb k 0 && not t) c.GET_SN.ensures c.GET_IF.ensures ∙ not_intra_seen _ _ _ c.seen-mcu.ensures)

@@ -17,6 +17,6 @@ bits_kept y z n f p q e h = let m : n % 65536 ≡ f = omega arith in p ∙ ap lo
 
 pub returns : goal.returns
 returns c =
-    let f = c.before.u16_at in
+    let f = c.u16_at in
     let l : f.result < 65536 = search rules in
     res w16 c.low16.type-inv ∙ bits_kept _ _ _ _ c.low16.ensures (to_z_pos w32 (omega arith)) f.ensures l

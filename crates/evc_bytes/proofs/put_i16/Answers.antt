@@ -21,5 +21,4 @@ shape_of-out c = search rules
 
 pub returns : goal.returns
 returns c =
-    let start = c.before.before.before.before.before.before in
-    same_bits _ _ _ _ _ c.before.before.put_u16.ensures (c.before.before.before.bits16.ensures ∙ ap (λ (z : ℤ). z modulo 65536) (to_z-of_z start.ranges.v))
+    same_bits _ _ _ _ _ c.put_u16.ensures (c.bits16.ensures ∙ ap (λ (z : ℤ). z modulo 65536) (to_z-of_z c.ranges.v))

@@ -22,4 +22,4 @@ pub shape_of-out : goal.shape_of-out
 shape_of-out c = search rules
 
 pub returns : goal.returns
-returns c = joined _ _ _ _ _ _ c.before.before.before.before.before.before.put_u8.ensures c.before.before.put_u8-2.ensures
+returns c = joined _ _ _ _ _ _ c.put_u8.ensures c.put_u8-2.ensures

@@ -17,18 +17,21 @@ use Rattle.evc_camera.specs.declared.Sums.{Sums}
 use Rattle.evc_camera.specs.Camera.{with_mv}
 use Rattle.evc_camera.proofs.Units.{sum_fits}
 use Rattle.evc_camera.proofs.add_mv.Goals as goal
+use Rattle.evc_camera.proofs.add_mv.Lts as place
+use Rattle.evc_camera.proofs.add_mv.Reads.{Pre, Post}
+use Rattle.evc_camera.proofs.add_mv.Tie.{the-claims as claims}
 
 pub overflow_add-result : goal.overflow_add-result
-overflow_add-result c = record { fits = low c.before.args.counted c.before.args.s.units c.before.requires.few }
+overflow_add-result c = record { fits = low c.args.counted c.args.s.units c.requires.few }
   where
     low : (b : Bool) (n : ℕ) → n ≤ most_units → n + bool_byte b < 2 ^ 64
     low true n h = omega arith
     low false n h = omega arith
 
-x_fits : (c : goal.After-component) → SFits w16 c.before.before.before.args.mv.x
+x_fits : (c : place.After-component claims Pre Post) → SFits w16 c.args.mv.x
 x_fits c = search rules
 
-y_fits : (c : goal.After-component-2) → SFits w16 c.before.before.before.before.before.before.before.args.mv.y
+y_fits : (c : place.After-component2 claims Pre Post) → SFits w16 c.args.mv.y
 y_fits c = search rules
 
 -- a component that does not count adds nothing
@@ -42,11 +45,9 @@ made s false mv x y p q = rw (p ∙ kept s.x, q ∙ kept s.y, add-zero s.units)
 
 pub returns : goal.returns
 returns c =
-    let p = c.before.before.before.before in
-    let s = p.before.before.before.before.before in
-    let v = simp (to_z-of_z (x_fits p.before.before)) at p.before.before.component.ensures in
-    let w = simp (to_z-of_z (y_fits c.before.before)) at c.before.before.component-2.ensures in
-    let x = simp (to_z-of_z (sum_fits s.args.s.x s.requires.across), res w16 {z = p.before.before.component.result} p.before.before.component.type-inv) at p.add.ensures in
-    let y = simp (to_z-of_z (sum_fits s.args.s.y s.requires.down), res w16 {z = c.before.before.component-2.result} c.before.before.component-2.type-inv) at c.add-2.ensures in
-    simp (res w64 {z = p.add.result} p.add.type-inv, res w64 {z = c.add-2.result} c.add-2.type-inv)
-    (made s.args.s s.args.counted s.args.mv _ _ (x.0 ∙ ap (λ (t : ℤ). s.args.s.x +ℤ t) v) (y.0 ∙ ap (λ (t : ℤ). s.args.s.y +ℤ t) w), x.1, y.1)
+    let v = simp (to_z-of_z (x_fits c.before.before.before.before.before.before)) at c.component.ensures in
+    let w = simp (to_z-of_z (y_fits c.before.before)) at c.component-2.ensures in
+    let x = simp (to_z-of_z (sum_fits c.args.s.x c.requires.across), res w16 {z = c.component.result} c.component.type-inv) at c.add.ensures in
+    let y = simp (to_z-of_z (sum_fits c.args.s.y c.requires.down), res w16 {z = c.component-2.result} c.component-2.type-inv) at c.add-2.ensures in
+    simp (res w64 {z = c.add.result} c.add.type-inv, res w64 {z = c.add-2.result} c.add-2.type-inv)
+    (made c.args.s c.args.counted c.args.mv _ _ (x.0 ∙ ap (λ (t : ℤ). c.args.s.x +ℤ t) v) (y.0 ∙ ap (λ (t : ℤ). c.args.s.y +ℤ t) w), x.1, y.1)

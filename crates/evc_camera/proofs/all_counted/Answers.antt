@@ -13,7 +13,7 @@ use Rattle.evc_camera.proofs.Units.{counted_at}
 use Rattle.evc_camera.proofs.all_counted.Goals as goal
 
 pub loop-i-init : goal.loop-i-init
-loop-i-init c = (omega arith, c.before.requires.0, λ e i l k. absurd (omega arith))
+loop-i-init c = (omega arith, c.requires.0, λ e i l k. absurd (omega arith))
 
 pub mcu_at-requires : goal.mcu_at-requires
 mcu_at-requires c = omega arith
@@ -32,11 +32,11 @@ one_more words from k all this h e t i l u =
 
 pub loop-i-preserved : goal.loop-i-preserved
 loop-i-preserved c =
-    let z = c.before.before.before.before.before.args in
-    (omega arith, omega arith, one_more z.map-scu.now _ _ _ _ c.before.before.before.loop-i.invariant.2 (counted_at z.map-scu.now _ _ _ c.before.mcu_at.ensures c.IS_COD_NIF-all.ensures))
+    let z = c.args in
+    (omega arith, omega arith, one_more z.map-scu.now _ _ _ _ c.loop-i.invariant.2 (counted_at z.map-scu.now _ _ _ c.mcu_at.ensures c.IS_COD_NIF-all.ensures))
 
 pub returns : goal.returns
-returns c e i l u = c.before.loop-i.invariant.2 e i l (omega arith)
+returns c e i l u = c.loop-i.invariant.2 e i l (omega arith)
 
 pub IS_COD_NIF-all-requires : goal.IS_COD_NIF-all-requires
 IS_COD_NIF-all-requires c = tt

@@ -14,6 +14,9 @@ use Rattle.evc_camera.specs.declared.EvcCamera.{EvcCamera}
 use Rattle.evc_camera.specs.Camera.{answer, sums_of, motion_of, camera_checks, camera_motion}
 use Rattle.evc_camera.proofs.Call.{covered}
 use Rattle.evc_camera.proofs.evc_camera_motion.Goals as goal
+use Rattle.evc_camera.proofs.evc_camera_motion.Lts as place
+use Rattle.evc_camera.proofs.evc_camera_motion.Reads.{Pre, Post}
+use Rattle.evc_camera.proofs.evc_camera_motion.Tie.{the-claims as claims}
 
 module _ (W H : ℕ) (map : List ℤ) (words : List ℕ) (r : EvcCamera) where
   refusal : (code : ℕ) → code ≡ first_of (camera_checks W H (length map) (length words)) → (code ≡ 0 → ⊥) → r ≡ answer code None → r ≡ camera_motion W H map words
@@ -25,8 +28,8 @@ module _ (W H : ℕ) (map : List ℤ) (words : List ℕ) (r : EvcCamera) where
   unfolding camera_motion
   done units s m e u p q h = rw e (h ∙ ap (answer 0) (q ∙ ap motion_of (p ∙ ap (sums_of map words) u)))
 
-accepted_call : (c : goal.Else-code-ne0) → first_of (camera_checks c.before.before.before.args.pic_w c.before.before.before.args.pic_h (length c.before.before.before.args.map_mv.now) (length c.before.before.before.args.map_scu.now)) ≡ 0
-accepted_call c = sym c.before.camera_code-code.ensures ∙ c.if-code-ne0.false
+accepted_call : (c : place.Else1 claims Pre Post) → first_of (camera_checks c.args.pic_w c.args.pic_h (length c.args.map_mv.now) (length c.args.map_scu.now)) ≡ 0
+accepted_call c = sym c.camera_code-code.ensures ∙ c.if-code-ne0.false
 
 at_most : (k r u n : ℕ) → r ≡ u → k * u ≤ n → k * r ≤ n
 at_most k r u n e h = rw e h
@@ -36,26 +39,23 @@ few r u n e h = rw e h
 
 pub returns-then-code-ne0 : goal.returns-then-code-ne0
 returns-then-code-ne0 c =
-    let z = c.before.before.before.before.args in
-    refusal z.pic-w z.pic-h z.map-mv.now z.map-scu.now _ _ c.before.before.camera_code-code.ensures c.before.if-code-ne0.true c.answer.ensures
+    let z = c.args in
+    refusal z.pic-w z.pic-h z.map-mv.now z.map-scu.now _ _ c.camera_code-code.ensures c.if-code-ne0.true c.answer.ensures
 
 pub unit_count-units-requires : goal.unit_count-units-requires
-unit_count-units-requires c = let k = covered _ _ _ _ (accepted_call c) in (k.across, k.down)
+unit_count-units-requires c = let k = covered _ _ _ _ (accepted_call c.before) in (k.across, k.down)
 
 pub sum_units-s-requires : goal.sum_units-s-requires
 sum_units-s-requires c =
-    let n = c.before in
-    let k = covered _ _ _ _ (accepted_call n.before) in
+    let k = covered _ _ _ _ (accepted_call c.before.before.before) in
     let i = c.index.ensures in
-    let u = n.unit_count-units.ensures in
+    let u = c.unit_count-units.ensures in
     (few _ _ _ i u.1, few _ _ _ (i ∙ u.0) k.units, at_most 4 _ _ _ (i ∙ u.0) k.vectors)
 
 pub returns : goal.returns
 returns c =
-    let i = c.before.before.before in
-    let u = i.before in
-    let z = u.before.before.before.before.args in
-    done z.pic-w z.pic-h z.map-mv.now z.map-scu.now _ _ _ _ (accepted_call u.before) (i.index.ensures ∙ u.unit_count-units.ensures.0) c.before.before.sum_units-s.ensures.0 c.before.motion_of.ensures c.answer-2.ensures
+    let z = c.args in
+    done z.pic-w z.pic-h z.map-mv.now z.map-scu.now _ _ _ _ (accepted_call c.before.before.before.before.before.before) (c.index.ensures ∙ c.unit_count-units.ensures.0) c.sum_units-s.ensures.0 c.motion_of.ensures c.answer-2.ensures
 
 pub camera_code-code-requires : goal.camera_code-code-requires
 camera_code-code-requires c = tt

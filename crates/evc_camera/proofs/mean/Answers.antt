@@ -18,13 +18,13 @@ holds (pos n) h = le→leb n _ h
 holds (negsuc n) h = lt→ltb n _ h
 
 pub int_to_float-result : goal.int_to_float-result
-int_to_float-result c = simp (to_z-of_z c.before.ranges.sum) (holds c.before.args.sum (omega arith))
+int_to_float-result c = simp (to_z-of_z c.ranges.sum) (holds c.args.sum (omega arith))
 
 few_times : (k n : ℕ) → k ≤ 4 → n ≤ most_units → T (in_float binary64 (pos (k * n)))
 few_times k n h l = holds (pos (k * n)) (le_trans (mul-le-mul h l) (omega arith))
 
 pub int_to_float-result-2 : goal.int_to_float-result-2
-int_to_float-result-2 c = few_times _ _ (omega arith) c.before.before.requires.2
+int_to_float-result-2 c = few_times _ _ (omega arith) c.requires.2
 
 size : (z : ℤ) → nat_abs z ≤ 32768 * most_units → mag z < 2 ^ 53
 size (pos n) h = omega arith
@@ -32,5 +32,4 @@ size (negsuc n) h = omega arith
 
 pub returns : goal.returns
 returns c =
-    let s = c.before.before in
-    simp (to_z-of_z s.ranges.sum) (once s.args.sum s.args.units s.requires.1 (size s.args.sum s.requires.0) (omega arith))
+    simp (to_z-of_z c.ranges.sum) (once c.args.sum c.args.units c.requires.1 (size c.args.sum c.requires.0) (omega arith))

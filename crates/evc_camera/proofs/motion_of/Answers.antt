@@ -34,17 +34,12 @@ returns-then-s-eq0 c = simp (eq-eqb _ _ c.if-s-eq0.true)
 pub returns-then-s : goal.returns-then-s
 unfolding motion_of
 returns-then-s c =
-    let e = c.before.before.before.before.before in
-    let s = e.before.before in
-    let k : (eq_z s.args.s.x (pos 0) && eq_z s.args.s.y (pos 0)) ≡ true = simp (zero_bits s.args.s.x s.requires.across, zero_bits s.args.s.y s.requires.down) at c.if-s.true in
-    simp (ne_eqb _ _ e.if-s-eq0.false, k)
+    let k : (eq_z c.args.s.x (pos 0) && eq_z c.args.s.y (pos 0)) ≡ true = simp (zero_bits c.args.s.x c.requires.across, zero_bits c.args.s.y c.requires.down) at c.if-s.true in
+    simp (ne_eqb _ _ c.if-s-eq0.false, k)
 
 pub returns : goal.returns
 returns c =
-    let l = c.before.before.before.before in
-    let e = l.before.before.before.before.before in
-    let s = e.before.before in
-    made s.args.s _ _ (ne_eqb _ _ e.if-s-eq0.false)
-    (simp (zero_bits s.args.s.x s.requires.across, zero_bits s.args.s.y s.requires.down) at l.if-s.false)
-    (simp (to_z-of_z (sum_fits s.args.s.x s.requires.across)) at c.before.before.mean.ensures)
-    (simp (to_z-of_z (sum_fits s.args.s.y s.requires.down)) at c.mean-2.ensures)
+    made c.args.s _ _ (ne_eqb _ _ c.if-s-eq0.false)
+    (simp (zero_bits c.args.s.x c.requires.across, zero_bits c.args.s.y c.requires.down) at c.if-s.false)
+    (simp (to_z-of_z (sum_fits c.args.s.x c.requires.across)) at c.mean.ensures)
+    (simp (to_z-of_z (sum_fits c.args.s.y c.requires.down)) at c.mean-2.ensures)

@@ -14,20 +14,17 @@ use Rattle.evc_clip.proofs.Laws.{clipped_fits}
 use Rattle.evc_clip.proofs.clip_component.Goals as goal
 
 pub qpel-requires : goal.qpel-requires
-qpel-requires c = fit (is-k* 4 (is_eq c.new.ensures (nat c.before.args.place))) (omega arith)
-
-abbrev start : goal.After-qpel_gmv → goal.Start
-start c = c.before.before.before
+qpel-requires c = fit (is-k* 4 (is_eq c.new.ensures (nat c.args.place))) (omega arith)
 
 -- what leads from the block to a place, over plain numbers
 vector : (x : ℕ) (mv p a g : ℤ) → p ≡ pos x → a ≡ pos 4 *ℤ p → g ≡ place_of x mv → g -ℤ a ≡ mv
 vector x mv p a g ep ea eg = rw (eg, ea, ep) (solve ((! (pos 4) ⊗ ! (pos x) ⊕ ! mv) ⊖ ! (pos 4) ⊗ ! (pos x)) (! mv) (omega arith))
 
-leads : (c : goal.After-qpel_gmv) → let s = start c in c.qpel_gmv.result.0 -ℤ c.before.qpel.result.0 ≡ clip_component s.args.pic s.args.place s.args.side s.args.mv
-leads c = vector _ _ _ _ _ c.before.before.new.ensures c.before.qpel.ensures (simp (to_z-of_z (start c).ranges.mv) at c.qpel_gmv.ensures)
+leads : (c : goal.After-qpel_gmv) → c.qpel_gmv.result.0 -ℤ c.qpel.result.0 ≡ clip_component c.args.pic c.args.place c.args.side c.args.mv
+leads c = vector _ _ _ _ _ c.new.ensures c.qpel.ensures (simp (to_z-of_z c.ranges.mv) at c.qpel_gmv.ensures)
 
 pub mv_to-requires : goal.mv_to-requires
-mv_to-requires c = subst (SFits w16) (sym (leads c)) (clipped_fits _ _ _ _ (start c).requires (start c).ranges.mv)
+mv_to-requires c = subst (SFits w16) (sym (leads c)) (clipped_fits _ _ _ _ c.requires c.ranges.mv)
 
 pub returns : goal.returns
 returns c = res w16 c.mv_to.type-inv ∙ c.mv_to.ensures ∙ leads c.before

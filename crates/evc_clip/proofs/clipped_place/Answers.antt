@@ -9,8 +9,11 @@ use Rattle.evc_def.specs.declared.EvcMv.{EvcMv}
 use Rattle.evc_def.specs.declared.Qpel.{Qpel}
 use Rattle.evc_clip.specs.Clip.{place_of, clip_component, clip_mv, clipped_place}
 use Rattle.evc_clip.proofs.clipped_place.Goals as goal
+use Rattle.evc_clip.proofs.clipped_place.Lts as place
+use Rattle.evc_clip.proofs.clipped_place.Reads.{Pre, Post}
+use Rattle.evc_clip.proofs.clipped_place.Tie.{the-claims as claims}
 
-fits : (s : goal.Start) → SFits w16 s.args.mv.x × SFits w16 s.args.mv.y
+fits : (s : place.Start claims Pre Post) → SFits w16 s.args.mv.x × SFits w16 s.args.mv.y
 fits s = (search rules, search rules)
 
 -- the pair that is made is the one that the definition names
@@ -20,6 +23,4 @@ made b mv x y p q = rw (p, q)
 
 pub returns : goal.returns
 returns c =
-    let d = c.before.before in
-    let s = d.before.before in
-    made _ _ _ _ (simp (to_z-of_z (fits s).0) at d.qpel_gmv.ensures) (simp (to_z-of_z (fits s).1) at c.qpel_gmv-2.ensures)
+    made _ _ _ _ (simp (to_z-of_z (fits c.before.before.before.before).0) at c.qpel_gmv.ensures) (simp (to_z-of_z (fits c.before.before.before.before).1) at c.qpel_gmv-2.ensures)

@@ -9,8 +9,11 @@ use Rattle.evc_def.specs.declared.EvcBlock.{EvcBlock}
 use Rattle.evc_def.specs.declared.EvcMv.{EvcMv}
 use Rattle.evc_clip.specs.Clip.{moved_component, moved_mv}
 use Rattle.evc_clip.proofs.moved_mv.Goals as goal
+use Rattle.evc_clip.proofs.moved_mv.Lts as place
+use Rattle.evc_clip.proofs.moved_mv.Reads.{Pre, Post}
+use Rattle.evc_clip.proofs.moved_mv.Tie.{the-claims as claims}
 
-fits : (s : goal.Start) → SFits w16 s.args.mv.x × SFits w16 s.args.mv.y
+fits : (s : place.Start claims Pre Post) → SFits w16 s.args.mv.x × SFits w16 s.args.mv.y
 fits s = (search rules, search rules)
 
 -- the record that is made is the one that the definition names
@@ -20,6 +23,4 @@ made b mv x y p q = rw (p, q)
 
 pub returns : goal.returns
 returns c =
-    let d = c.before.before in
-    let s = d.before.before in
-    made _ _ _ _ (simp (to_z-of_z (fits s).0) at d.moved_component.ensures) (simp (to_z-of_z (fits s).1) at c.moved_component-2.ensures)
+    made _ _ _ _ (simp (to_z-of_z (fits c.before.before.before.before).0) at c.moved_component.ensures) (simp (to_z-of_z (fits c.before.before.before.before).1) at c.moved_component-2.ensures)

@@ -20,10 +20,10 @@ module _ (b : EvcBlock) (mv : EvcMv) where
   done r m e p q = rw (e, p, q)
 
 pub returns-then-code-ne0 : goal.returns-then-code-ne0
-returns-then-code-ne0 c = let t = c.before in refusal _ _ _ _ t.before.block_code-code.ensures t.if-code-ne0.true c.nothing_moved.ensures
+returns-then-code-ne0 c = refusal _ _ _ _ c.block_code-code.ensures c.if-code-ne0.true c.nothing_moved.ensures
 
-accepted : (c : goal.Else-code-ne0) → first_of (block_checks c.before.before.args.block) ≡ 0
-accepted c = sym c.before.block_code-code.ensures ∙ c.if-code-ne0.false
+accepted : (c : goal.Else-code-ne0) → first_of (block_checks c.args.block) ≡ 0
+accepted c = sym c.block_code-code.ensures ∙ c.if-code-ne0.false
 
 pub clip_mv-requires : goal.clip_mv-requires
 clip_mv-requires c = allowed_block _ (accepted c)
@@ -32,4 +32,4 @@ pub moved_mv-requires : goal.moved_mv-requires
 moved_mv-requires c = allowed_block _ (accepted c.before)
 
 pub returns : goal.returns
-returns c = done _ _ _ _ (accepted c.before.before) c.before.clip_mv.ensures c.moved_mv.ensures
+returns c = done _ _ _ _ (accepted c.before.before) c.clip_mv.ensures c.moved_mv.ensures

@@ -17,12 +17,11 @@ pub qpel-max_clip-requires : goal.qpel-max_clip-requires
 qpel-max_clip-requires c = fit (is-k* 4 (is_eq c.new.ensures (nat _))) (omega arith)
 
 pub qpel-requires : goal.qpel-requires
-qpel-requires c = fit (is-k* 4 (is_eq c.new-2.ensures (nat c.before.before.before.args.place))) (omega arith)
+qpel-requires c = fit (is-k* 4 (is_eq c.new-2.ensures (nat c.args.place))) (omega arith)
 
 pub moved-requires : goal.moved-requires
 moved-requires c =
-    let s = c.before.before.before.before in
-    fit (is-+ (is_eq c.qpel.ensures (is-k* 4 (is_eq c.before.new-2.ensures (nat s.args.place)))) (arg s.ranges.mv)) (omega signed)
+    fit (is-+ (is_eq c.qpel.ensures (is-k* 4 (is_eq c.new-2.ensures (nat c.args.place)))) (arg c.ranges.mv)) (omega signed)
 
 -- the clipped place, over plain numbers
 place : (W x w n : ℕ) (mv lo p q a m g : ℤ) → Allowed W x w → p ≡ pos x → a ≡ pos 4 *ℤ p → q ≡ pos n → n + w ≡ W + margin → m ≡ pos 4 *ℤ q → lo ≡ − 256 → g ≡ clip3 lo m (a +ℤ mv) → g ≡ place_of x (clip_component W x w mv)
@@ -34,10 +33,5 @@ place W x w n mv lo p q a m g ok ep ea eq en em el eg =
 
 pub returns : goal.returns
 returns c =
-    let m = c.before in
-    let q = m.before in
-    let n = q.before in
-    let h = n.before in
-    let s = h.before.before in
-    place _ _ _ _ _ _ _ _ _ _ _ s.requires n.new-2.ensures q.qpel.ensures h.before.new.ensures (omega arith) h.qpel-max_clip.ensures refl
-    (c.clip3.ensures ∙ ap (λ (z : ℤ). clip3 _ h.qpel-max_clip.result.0 z) (simp (to_z-of_z s.ranges.mv) at m.moved.ensures))
+    place _ _ _ _ _ _ _ _ _ _ _ c.requires c.new-2.ensures c.qpel.ensures c.new.ensures (omega arith) c.qpel-max_clip.ensures refl
+    (c.clip3.ensures ∙ ap (λ (z : ℤ). clip3 _ c.qpel-max_clip.result.0 z) (simp (to_z-of_z c.ranges.mv) at c.moved.ensures))

@@ -21,8 +21,4 @@ block_is b w h x y p q r s = rw (sym p, sym q, sym r, sym s) (places_last w h x 
 
 pub returns : goal.returns
 returns c =
-    let y = c.before.before in
-    let x = y.before in
-    let h = x.before in
-    let w = h.before in
-    block_is w.before.args.b _ _ _ _ w.is_block_side.ensures h.is_block_side-2.ensures x.is_inside.ensures y.is_inside-2.ensures
+    block_is c.args.b _ _ _ _ c.is_block_side.ensures c.is_block_side-2.ensures c.is_inside.ensures c.is_inside-2.ensures

@@ -15,14 +15,13 @@ left p q e f = not-false q (and_false_right (not p) (not q) e (rw f))
 
 pub returns-then-is_accepted : goal.returns-then-is_accepted
 returns-then-is_accepted c =
-    let k = accepted _ _ (sym c.before.is_accepted.ensures ∙ c.if-is_accepted.true) in
+    let k = accepted _ _ (sym c.is_accepted.ensures ∙ c.if-is_accepted.true) in
     sym (passed _ _ _ k.0 ∙ passed _ _ _ k.1 ∙ none)
 
 pub returns-then-bad_picture : goal.returns-then-bad_picture
-returns-then-bad_picture c = sym (refused _ _ _ (sym c.before.bad_picture.ensures ∙ c.if-bad_picture.true))
+returns-then-bad_picture c = sym (refused _ _ _ (sym c.bad_picture.ensures ∙ c.if-bad_picture.true))
 
 pub returns : goal.returns
 returns c =
-    let p = sym c.before.bad_picture.ensures ∙ c.if-bad_picture.false in
-    let e = c.before.before in
-    sym (passed _ _ _ p ∙ refused _ _ _ (left _ _ (sym e.before.is_accepted.ensures ∙ e.if-is_accepted.false) p))
+    let p = sym c.bad_picture.ensures ∙ c.if-bad_picture.false in
+    sym (passed _ _ _ p ∙ refused _ _ _ (left _ _ (sym c.is_accepted.ensures ∙ c.if-is_accepted.false) p))

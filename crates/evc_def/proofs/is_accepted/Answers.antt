@@ -27,5 +27,4 @@ accepted b false e =
 
 pub returns : goal.returns
 returns c =
-    let k = c.before.before.before.before in
-    accepted k.before.args.b _ k.bad_block.ensures
+    accepted c.args.b _ c.bad_block.ensures

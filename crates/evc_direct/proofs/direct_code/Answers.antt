@@ -6,20 +6,23 @@ use Rattle.evc_def.proofs.Codes.{refused, passed, none, stops, goes_on}
 use Rattle.evc_def.proofs.Blocks.{allowed_block}
 use Rattle.evc_map.specs.Maps.{map_short}
 use Rattle.evc_direct.proofs.direct_code.Goals as goal
+use Rattle.evc_direct.proofs.direct_code.Lts as place
+use Rattle.evc_direct.proofs.direct_code.Reads.{Pre, Post}
+use Rattle.evc_direct.proofs.direct_code.Tie.{the-claims as claims}
 
-block_good : (c : goal.Else-code-ne0) → first_of (block_checks c.before.before.args.b) ≡ 0
-block_good c = sym c.before.block_code-code.ensures ∙ c.if-code-ne0.false
+block_good : (c : goal.Else-code-ne0) → first_of (block_checks c.args.b) ≡ 0
+block_good c = sym c.block_code-code.ensures ∙ c.if-code-ne0.false
 
 -- the test of the code is that of the definition
-map_test : (c : goal.After-map_short) → let a = c.before.before.before.args in (a.has-col && c.map_short.result) ≡ (a.has-col && map_short a.b.pic_w a.b.pic_h a.col-mv)
-map_test c = ap (λ (t : Bool). c.before.before.before.args.has_col && t) c.map_short.ensures
+map_test : (c : place.After-map_short claims Pre Post) → let a = c.args in (a.has-col && c.map_short.result) ≡ (a.has-col && map_short a.b.pic_w a.b.pic_h a.col-mv)
+map_test c = ap (λ (t : Bool). c.args.has_col && t) c.map_short.ensures
 
-map_good : (c : goal.Else-has_col-map_short) → let a = c.before.before.before.before.args in (a.has-col && map_short a.b.pic_w a.b.pic_h a.col-mv) ≡ false
+map_good : (c : goal.Else-has_col-map_short) → let a = c.args in (a.has-col && map_short a.b.pic_w a.b.pic_h a.col-mv) ≡ false
 map_good c = sym (map_test c.before) ∙ c.if-has_col-map_short.false
 
 pub returns-then-code-ne0 : goal.returns-then-code-ne0
 returns-then-code-ne0 c =
-    let e = c.before.block_code-code.ensures in
+    let e = c.block_code-code.ensures in
     e ∙ sym (stops (block_checks _) _ (λ z. c.if-code-ne0.true (e ∙ z)))
 
 pub map_short-requires : goal.map_short-requires
@@ -30,10 +33,8 @@ returns-then-has_col-map_short c = sym (goes_on 0 (block_checks _) _ tt (block_g
 
 pub returns-then-poc_too_large : goal.returns-then-poc_too_large
 returns-then-poc_too_large c =
-    let m = c.before.before in
-    sym (goes_on 0 (block_checks _) _ tt (block_good m.before.before) ∙ passed _ _ _ (map_good m) ∙ refused _ _ _ (sym c.before.poc_too_large.ensures ∙ c.if-poc_too_large.true))
+    sym (goes_on 0 (block_checks _) _ tt (block_good c.before.before.before.before) ∙ passed _ _ _ (map_good c.before.before) ∙ refused _ _ _ (sym c.poc_too_large.ensures ∙ c.if-poc_too_large.true))
 
 pub returns : goal.returns
 returns c =
-    let m = c.before.before in
-    sym (goes_on 0 (block_checks _) _ tt (block_good m.before.before) ∙ passed _ _ _ (map_good m) ∙ passed _ _ _ (sym c.before.poc_too_large.ensures ∙ c.if-poc_too_large.false) ∙ none)
+    sym (goes_on 0 (block_checks _) _ tt (block_good c.before.before.before.before) ∙ passed _ _ _ (map_good c.before.before) ∙ passed _ _ _ (sym c.poc_too_large.ensures ∙ c.if-poc_too_large.false) ∙ none)

@@ -13,17 +13,15 @@ unit_at-scup-requires c =
 
 pub collocated_mv-mv-requires : goal.collocated_mv-mv-requires
 collocated_mv-mv-requires c =
-    let a = c.before.args in
-    rw c.unit_at-scup.ensures (map_good a.block a.pocs a.has-col a.col-mv.now c.before.requires)
+    let a = c.args in
+    rw c.unit_at-scup.ensures (map_good a.block a.pocs a.has-col a.col-mv.now c.requires)
 
 pub direct_vectors-requires : goal.direct_vectors-requires
 direct_vectors-requires c =
-    let s = c.before.before in
-    let a = s.args in
-    counts_good a.block a.pocs a.has-col a.col-mv.now s.requires
+    let a = c.args in
+    counts_good a.block a.pocs a.has-col a.col-mv.now c.requires
 
 pub returns : goal.returns
 returns c =
-    let m = c.before in
-    let a = m.before.before.args in
-    c.direct_vectors.ensures ∙ ap (direct_vectors a.pocs) (m.collocated_mv-mv.ensures ∙ rw m.before.unit_at-scup.ensures)
+    let a = c.args in
+    c.direct_vectors.ensures ∙ ap (direct_vectors a.pocs) (c.collocated_mv-mv.ensures ∙ rw c.unit_at-scup.ensures)

@@ -47,11 +47,8 @@ module _ (p : Pocs) (mv : EvcMv) where
 pub returns-then-p : goal.returns-then-p
 returns-then-p c = none _ _ c.if-p.true
 
-abbrev start : goal.After-dpoc-dpoc_co → goal.Start
-start k = k.before.before.before
-
 co_apart : (k : goal.After-dpoc-dpoc_co) → 0 < nat_abs (to_z w32 (of_z w32 k.dpoc-dpoc_co.result))
-co_apart k = apart _ _ _ _ k.before.if-p.false k.dpoc-dpoc_co.ensures.0 (res w32 k.dpoc-dpoc_co.type-inv)
+co_apart k = apart _ _ _ _ k.if-p.false k.dpoc-dpoc_co.ensures.0 (res w32 k.dpoc-dpoc_co.type-inv)
 
 co_small : (k : goal.After-dpoc-dpoc_co) → nat_abs (to_z w32 (of_z w32 k.dpoc-dpoc_co.result)) ≤ max_poc
 co_small k = small k.dpoc-dpoc_co.result _ (res w32 k.dpoc-dpoc_co.type-inv) k.dpoc-dpoc_co.ensures.1
@@ -62,15 +59,11 @@ scaled_mv-requires c =
 
 pub scaled_mv-requires-2 : goal.scaled_mv-requires-2
 scaled_mv-requires-2 c =
-    let k = c.before.before.before in
-    (small c.dpoc-2.result _ (res w32 c.dpoc-2.type-inv) c.dpoc-2.ensures.1, co_apart k, co_small k)
+    (small c.dpoc-2.result _ (res w32 c.dpoc-2.type-inv) c.dpoc-2.ensures.1, co_apart c.before.before.before, co_small c.before.before.before)
 
 pub returns : goal.returns
 returns c =
-    let m = c.before.before in
-    let k = m.before.before in
-    let s = start k in
-    let co : to_z w32 (of_z w32 k.dpoc-dpoc_co.result) ≡ dpoc_co s.args.p = res w32 k.dpoc-dpoc_co.type-inv ∙ k.dpoc-dpoc_co.ensures.0 in
-    both s.args.p s.args.mv _ _ k.before.if-p.false
-    (m.scaled_mv.ensures ∙ ap₂ (λ (a b : ℤ). scaled_by a b s.args.mv) (res w32 m.before.dpoc.type-inv ∙ m.before.dpoc.ensures.0) co)
-    (c.scaled_mv-2.ensures ∙ ap₂ (λ (a b : ℤ). scaled_by a b s.args.mv) (res w32 c.before.dpoc-2.type-inv ∙ c.before.dpoc-2.ensures.0 ∙ turned s.args.p s.args.mv) co)
+    let co : to_z w32 (of_z w32 c.dpoc-dpoc_co.result) ≡ dpoc_co c.args.p = res w32 c.dpoc-dpoc_co.type-inv ∙ c.dpoc-dpoc_co.ensures.0 in
+    both c.args.p c.args.mv _ _ c.if-p.false
+    (c.scaled_mv.ensures ∙ ap₂ (λ (a b : ℤ). scaled_by a b c.args.mv) (res w32 c.dpoc.type-inv ∙ c.dpoc.ensures.0) co)
+    (c.scaled_mv-2.ensures ∙ ap₂ (λ (a b : ℤ). scaled_by a b c.args.mv) (res w32 c.dpoc-2.type-inv ∙ c.dpoc-2.ensures.0 ∙ turned c.args.p c.args.mv) co)

@@ -4,15 +4,14 @@ use Rattle.evc_direct.proofs.Direct.{refusal, done}
 use Rattle.evc_direct.proofs.evc_get_mv_dir.Goals as goal
 
 pub direct_mv-direct-requires : goal.direct_mv-direct-requires
-direct_mv-direct-requires c = sym c.before.direct_code-code.ensures ∙ c.if-code-eq0.true
+direct_mv-direct-requires c = sym c.direct_code-code.ensures ∙ c.if-code-eq0.true
 
 pub returns-then-code-eq0 : goal.returns-then-code-eq0
 returns-then-code-eq0 c =
-    let t = c.before in
-    let a = t.before.before.args in
-    done a.block a.pocs a.has-col a.col-mv.now _ (sym t.before.direct_code-code.ensures ∙ t.if-code-eq0.true) c.direct_mv-direct.ensures
+    let a = c.args in
+    done a.block a.pocs a.has-col a.col-mv.now _ (sym c.direct_code-code.ensures ∙ c.if-code-eq0.true) c.direct_mv-direct.ensures
 
 pub returns-else-code-eq0 : goal.returns-else-code-eq0
 returns-else-code-eq0 c =
-    let a = c.before.before.args in
-    refusal a.block a.pocs a.has-col a.col-mv.now _ c.before.direct_code-code.ensures c.if-code-eq0.false
+    let a = c.args in
+    refusal a.block a.pocs a.has-col a.col-mv.now _ c.direct_code-code.ensures c.if-code-eq0.false

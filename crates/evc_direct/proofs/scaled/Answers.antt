@@ -35,6 +35,5 @@ nonzero_div-dpoc c = (
 
 pub returns : goal.returns
 returns c =
-    let s = c.before in
     res w16 c.low16.type-inv
-    ∙ simp (to_z-of_z s.ranges.v, to_z-of_z s.ranges.dpoc, to_z-of_z s.ranges.dpoc_co, to_z-of_z (v_fits s), to_z-of_z (product_fits s), to_z-of_z (quotient_fits s)) at c.low16.ensures
+    ∙ simp (to_z-of_z c.ranges.v, to_z-of_z c.ranges.dpoc, to_z-of_z c.ranges.dpoc_co, to_z-of_z (v_fits c.before), to_z-of_z (product_fits c.before), to_z-of_z (quotient_fits c.before)) at c.low16.ensures

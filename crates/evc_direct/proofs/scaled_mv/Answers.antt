@@ -12,15 +12,18 @@ use Rattle.evc_def.specs.Blocks.{max_poc}
 use Rattle.evc_def.specs.declared.EvcMv.{EvcMv}
 use Rattle.evc_direct.specs.Direct.{exact_quotient, low_mv}
 use Rattle.evc_direct.proofs.scaled_mv.Goals as goal
+use Rattle.evc_direct.proofs.scaled_mv.Lts as place
+use Rattle.evc_direct.proofs.scaled_mv.Reads.{Pre, Post}
+use Rattle.evc_direct.proofs.scaled_mv.Tie.{the-claims as claims}
 
 -- what `scaled` asks, of the distances as the machine reads them
-bounds : (s : goal.Start) → (nat_abs (to_z w32 (of_z w32 s.args.dpoc)) ≤ max_poc) × (0 < nat_abs (to_z w32 (of_z w32 s.args.dpoc_co))) × (nat_abs (to_z w32 (of_z w32 s.args.dpoc_co)) ≤ max_poc)
+bounds : (s : place.Start claims Pre Post) → (nat_abs (to_z w32 (of_z w32 s.args.dpoc)) ≤ max_poc) × (0 < nat_abs (to_z w32 (of_z w32 s.args.dpoc_co))) × (nat_abs (to_z w32 (of_z w32 s.args.dpoc_co)) ≤ max_poc)
 bounds s = simp (to_z-of_z s.ranges.dpoc, to_z-of_z s.ranges.dpoc_co) s.requires
 
-x_fits : (c : goal.After-struct_told-1) → SFits w16 c.before.args.mv.x
+x_fits : (c : place.After-struct_told claims Pre Post) → SFits w16 c.args.mv.x
 x_fits c = search rules
 
-y_fits : (c : goal.After-struct_told-2-1) → SFits w16 c.before.before.before.args.mv.y
+y_fits : (c : place.After-struct_told2 claims Pre Post) → SFits w16 c.args.mv.y
 y_fits c = search rules
 
 made : (dpoc co : ℤ) (mv : EvcMv) (x y : ℤ) → x ≡ low16 (exact_quotient dpoc mv.x co) → y ≡ low16 (exact_quotient dpoc mv.y co) → record { x = x; y = y } ≡ low_mv (exact_quotient dpoc mv.x co) (exact_quotient dpoc mv.y co)
@@ -28,14 +31,12 @@ made dpoc co mv x y p q = rw (p, q)
 
 pub returns : goal.returns
 returns c =
-    let d = c.before.before in
-    let s = d.before.before in
-    made s.args.dpoc s.args.dpoc_co s.args.mv _ _
-    (res w16 d.scaled.type-inv ∙ (simp (to_z-of_z (x_fits d.before), to_z-of_z s.ranges.dpoc, to_z-of_z s.ranges.dpoc_co) at d.scaled.ensures))
-    (res w16 c.scaled-2.type-inv ∙ (simp (to_z-of_z (y_fits c.before), to_z-of_z s.ranges.dpoc, to_z-of_z s.ranges.dpoc_co) at c.scaled-2.ensures))
+    made c.args.dpoc c.args.dpoc_co c.args.mv _ _
+    (res w16 c.scaled.type-inv ∙ (simp (to_z-of_z (x_fits c.before.before.before), to_z-of_z c.ranges.dpoc, to_z-of_z c.ranges.dpoc_co) at c.scaled.ensures))
+    (res w16 c.scaled-2.type-inv ∙ (simp (to_z-of_z (y_fits c.before), to_z-of_z c.ranges.dpoc, to_z-of_z c.ranges.dpoc_co) at c.scaled-2.ensures))
 
 pub scaled-requires : goal.scaled-requires
-scaled-requires c = bounds c.before
+scaled-requires c = bounds c.before.before
 
 pub scaled-requires-2 : goal.scaled-requires-2
-scaled-requires-2 c = bounds c.before.before.before
+scaled-requires-2 c = bounds c.before.before.before.before

@@ -9,7 +9,7 @@ pub loop-i-init : goal.loop-i-init
 loop-i-init c = omega arith
 
 pub overflow_add-sum : goal.overflow_add-sum
-overflow_add-sum c = omega (arith, row_fits c.before.before.args.x c.loop-i-test.true)
+overflow_add-sum c = omega (arith, row_fits c.args.x c.loop-i-test.true)
 
 pub overflow_add-i : goal.overflow_add-i
 overflow_add-i c = omega arith
@@ -22,6 +22,6 @@ loop-i-preserved c = omega arith
 
 pub returns : goal.returns
 returns c =
-    let l = c.before.loop-i in
-    let e : l.i ≡ c.before.before.args.n = omega (arith, c.loop-i-test.false) in
-    l.invariant.1 ∙ ap (λ (i : ℕ). i * c.before.before.args.x) e
+    let l = c.loop-i in
+    let e : l.i ≡ c.args.n = omega (arith, c.loop-i-test.false) in
+    l.invariant.1 ∙ ap (λ (i : ℕ). i * c.args.x) e

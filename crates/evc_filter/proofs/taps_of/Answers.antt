@@ -24,10 +24,10 @@ row_is UV n f l e =
     ap (λ (b : Bool). cond b (taps_of Y (f + n)) (taps_of UV (f + n - 4))) (le-ltb (f + n) 4 (omega arith)) ∙ ap (taps_of UV) z
 
 pub returns : goal.returns
-returns c = let s = c.before.before in c.taps_at.ensures ∙ row_is s.args.t s.args.phase _ s.requires c.before.first_row.ensures
+returns c = c.taps_at.ensures ∙ row_is c.args.t c.args.phase _ c.requires c.first_row.ensures
 
 pub overflow_add-first_row : goal.overflow_add-first_row
-overflow_add-first_row c = let t = few c.before.args.t in let l = c.before.requires in record { fits = omega (arith, c.first_row.ensures) }
+overflow_add-first_row c = let t = few c.args.t in let l = c.requires in record { fits = omega (arith, c.first_row.ensures) }
 
 pub taps_at-requires : goal.taps_at-requires
-taps_at-requires c = let t = few c.before.args.t in let l = c.before.requires in omega (arith, c.first_row.ensures)
+taps_at-requires c = let t = few c.args.t in let l = c.requires in omega (arith, c.first_row.ensures)

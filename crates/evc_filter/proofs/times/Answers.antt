@@ -31,29 +31,25 @@ pub multiple-high-requires : goal.multiple-high-requires
 multiple-high-requires c = digit_fits c _ (omega arith)
 
 pub multiple-middle-requires : goal.multiple-middle-requires
-multiple-middle-requires c = digit_fits c.before _ (omega (arith, and_le_l (c.before.args.t / 4) 3))
+multiple-middle-requires c = digit_fits c _ (omega (arith, and_le_l (c.args.t / 4) 3))
 
 pub multiple-low-requires : goal.multiple-low-requires
-multiple-low-requires c = digit_fits c.before.before _ (and_le_l c.before.before.args.t _)
+multiple-low-requires c = digit_fits c _ (and_le_l c.args.t _)
 
-abbrev start : goal.After-multiple-low → goal.Start
-start c = c.before.before.before
-
-product : (c : goal.After-multiple-low) → (c.before.before.multiple-high.result * 4 % 65536 + c.before.multiple-middle.result) * 4 % 65536 + c.multiple-low.result ≡ (start c).args.t * (start c).args.x
-product c = joined (start c).args.t (start c).args.x _ _ _ (fits (start c)) c.before.before.multiple-high.ensures c.before.multiple-middle.ensures c.multiple-low.ensures
+product : (c : goal.After-multiple-low) → (c.multiple-high.result * 4 % 65536 + c.multiple-middle.result) * 4 % 65536 + c.multiple-low.result ≡ c.args.t * c.args.x
+product c = joined c.args.t c.args.x _ _ _ (fits c) c.multiple-high.ensures c.multiple-middle.ensures c.multiple-low.ensures
 
 pub overflow_add-result : goal.overflow_add-result
-overflow_add-result c = record { fits = omega (arith, fits (start c), digits (start c).args.t (start c).args.x) }
+overflow_add-result c = record { fits = omega (arith, fits c, digits c.args.t c.args.x) }
 
 pub overflow_add-result-2 : goal.overflow_add-result-2
-overflow_add-result-2 c = record { fits = omega (arith, fits (start c), digits (start c).args.t (start c).args.x) }
+overflow_add-result-2 c = record { fits = omega (arith, fits c, digits c.args.t c.args.x) }
 
 pub returns : goal.returns
 returns c =
-    let s = start c in
     let e = product c in (
       e,
-      omega (arith, e, mul-le-mul s.requires.0 s.requires.1),
-      omega (arith, e, mul-le-mul_left s.args.t s.requires.1),
-      omega (arith, e, mul-le-mul_right s.args.x s.requires.0),
+      omega (arith, e, mul-le-mul c.requires.0 c.requires.1),
+      omega (arith, e, mul-le-mul_left c.args.t c.requires.1),
+      omega (arith, e, mul-le-mul_right c.args.x c.requires.0),
     )

@@ -12,31 +12,31 @@ use Rattle.evc_int.proofs.low16.Goals as goal
 
 pub overflow_cast-result : goal.overflow_cast-result
 overflow_cast-result c =
-    let m = is_mask16 (of_z w32 c.before.args.x) in
+    let m = is_mask16 (of_z w32 c.args.x) in
     fit m (omega (arith, lt_yes m (nat _) c.if-bits-lt32768.true))
 
 pub overflow_sub-result : goal.overflow_sub-result
-overflow_sub-result c = fit (is-- (is_mask16 (of_z w32 c.before.args.x)) (nat 65536)) (omega arith)
+overflow_sub-result c = fit (is-- (is_mask16 (of_z w32 c.args.x)) (nat 65536)) (omega arith)
 
 pub overflow_cast-result-else-bits-lt32768 : goal.overflow_cast-result-else-bits-lt32768
 overflow_cast-result-else-bits-lt32768 c =
-    let m = is_mask16 (of_z w32 c.before.args.x) in
+    let m = is_mask16 (of_z w32 c.args.x) in
     fit (is_rd (overflow_sub-result c) (is-- m (nat 65536))) (omega (arith, lt_no m (nat _) c.if-bits-lt32768.false))
 
 pub returns-then-bits-lt32768 : goal.returns-then-bits-lt32768
 unfolding low16
 returns-then-bits-lt32768 c =
-    let x = c.before.args.x in
+    let x = c.args.x in
     let m = is_mask16 (of_z w32 x) in
-    let e = bits_modulo x c.before.ranges.x in
+    let e = bits_modulo x c.ranges.x in
     same (is_rd (overflow_cast-result c) m) (nat (x modulo 65536)) (omega arith)
     ∙ sym (signed16_low (x modulo 65536) (omega (arith, lt_yes m (nat _) c.if-bits-lt32768.true)))
 
 pub returns-else-bits-lt32768 : goal.returns-else-bits-lt32768
 unfolding low16
 returns-else-bits-lt32768 c =
-    let x = c.before.args.x in
+    let x = c.args.x in
     let m = is_mask16 (of_z w32 x) in
-    let e = bits_modulo x c.before.ranges.x in
+    let e = bits_modulo x c.ranges.x in
     same (is_rd (overflow_cast-result-else-bits-lt32768 c) (is_rd (overflow_sub-result c) (is-- m (nat 65536)))) (is-- (nat (x modulo 65536)) (nat 65536)) (omega arith)
     ∙ sym (signed16_high (x modulo 65536) (omega (arith, lt_no m (nat _) c.if-bits-lt32768.false)))

@@ -6,7 +6,5 @@ use Rattle.evc_inter.proofs.evc_pad.Goals as goal
 
 pub returns : goal.returns
 returns c =
-    let p = c.before.before in
-    let q = p.before.before in
-    let a = q.before.before.args in
-    let e = q.plane_type.ensures in record { value = p.pad.ensures.value ∙ ap (λ (k : PlaneType). pad_code k a.pic-w a.pic-h a.plane.now) e; plane_after = p.pad.ensures.plane_after ∙ ap (λ (k : PlaneType). pad_after k a.pic-w a.pic-h a.plane.now) e }
+    let a = c.args in
+    let e = c.plane_type.ensures in record { value = c.pad.ensures.value ∙ ap (λ (k : PlaneType). pad_code k a.pic-w a.pic-h a.plane.now) e; plane_after = c.pad.ensures.plane_after ∙ ap (λ (k : PlaneType). pad_after k a.pic-w a.pic-h a.plane.now) e }

@@ -30,7 +30,7 @@ large n l =
     rw (a, b, c, d, e)
 
 pub returns-then-n-gt32 : goal.returns-then-n-gt32
-returns-then-n-gt32 c = large c.before.args.n c.if-n-gt32.true
+returns-then-n-gt32 c = large c.args.n c.if-n-gt32.true
 
 pub returns : goal.returns
-returns c = c.is_block_side.ensures ∙ sides c.before.before.args.n
+returns c = c.is_block_side.ensures ∙ sides c.args.n

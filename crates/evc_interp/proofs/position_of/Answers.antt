@@ -26,15 +26,9 @@ fits s = (search rules, search rules)
 
 pub returns : goal.returns
 returns c =
-    let x = c.before in
-    let w = x.before in
-    let d = w.before in
-    let a = d.before.before in
-    let l = a.before.before in
-    let s = l.before in
-    let f = fits s in
-    made _ _ _ _ _ _ _ _ _ _ _ (stride_is _ _ _ _ l.plane_config-c.ensures) w.window.ensures
-    (a.is_filtered-across.ensures ∙ ap (λ (z : ℤ). is_filtered s.args.t z) (to_z-of_z f.0))
-    (d.is_filtered-down.ensures ∙ ap (λ (z : ℤ). is_filtered s.args.t z) (to_z-of_z f.1))
-    x.phase.ensures
+    let f = fits c.before.before.before.before.before.before.before.before.before.before in
+    made _ _ _ _ _ _ _ _ _ _ _ (stride_is _ _ _ _ c.plane_config-c.ensures) c.window.ensures
+    (c.is_filtered-across.ensures ∙ ap (λ (z : ℤ). is_filtered c.args.t z) (to_z-of_z f.0))
+    (c.is_filtered-down.ensures ∙ ap (λ (z : ℤ). is_filtered c.args.t z) (to_z-of_z f.1))
+    c.phase.ensures
     c.phase-2.ensures

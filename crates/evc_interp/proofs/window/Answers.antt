@@ -8,7 +8,5 @@ use Rattle.evc_interp.proofs.window.Goals as goal
 pub returns : goal.returns
 unfolding window_of
 returns c =
-    let y = c.before in
-    let x = y.before in
-    let a = x.before.args in
-    c.window_start.ensures ∙ ap₂ (λ (i j : ℤ). window_start a.t a.pic-w a.pic-h i j) x.start.ensures y.start-2.ensures
+    let a = c.args in
+    c.window_start.ensures ∙ ap₂ (λ (i j : ℤ). window_start a.t a.pic-w a.pic-h i j) c.start.ensures c.start-2.ensures

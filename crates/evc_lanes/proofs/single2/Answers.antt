@@ -6,28 +6,30 @@ use lib.Dec.{lit<}
 use Rattle.evc_filter.specs.Inner.{Under, single_at}
 use Rattle.evc_lanes.proofs.Lanes.{lane, first_lane}
 use Rattle.evc_lanes.proofs.single2.Goals as goal
+use Rattle.evc_lanes.proofs.single2.Lts as place
+use Rattle.evc_lanes.proofs.single2.Reads.{Pre, Post}
+use Rattle.evc_lanes.proofs.single2.Tie.{the-claims as claims}
 
 -- what sample x asks
-asks : (s : goal.Start) (x : ℕ) → x < 2 → (s.args.at + x < 18446744073709551616) × Under 1023 s.args.s.now (s.args.at + x) s.args.o s.args.taps
+asks : (s : place.Start claims Pre Post) (x : ℕ) → x < 2 → (s.args.at + x < 18446744073709551616) × Under 1023 s.args.s.now (s.args.at + x) s.args.o s.args.taps
 asks s x l = (omega arith, lane s.requires.0 x l)
 
 pub returns : goal.returns
 returns c =
-    let p = c.before.before in
-    let a = p.before.before.before.before.before.before.args in
+    let a = c.args in
     let z : a.at ≡ a.at + 0 = omega arith in
-    p.put2.ensures (λ (x : ℕ). single_at a.s.now (a.at + x) a.o a.taps)
-    (p.before.before.single_at.ensures ∙ ap (λ (i : ℕ). single_at a.s.now i a.o a.taps) z)
-    p.before.single_at-2.ensures
+    c.put2.ensures (λ (x : ℕ). single_at a.s.now (a.at + x) a.o a.taps)
+    (c.single_at.ensures ∙ ap (λ (i : ℕ). single_at a.s.now i a.o a.taps) z)
+    c.single_at-2.ensures
 
 pub single_at-requires : goal.single_at-requires
-single_at-requires c = first_lane c.before.before.before.requires.0 (lit< tt)
+single_at-requires c = first_lane c.requires.0 (lit< tt)
 
 pub overflow_add-at : goal.overflow_add-at
-overflow_add-at c = record { fits = (asks c.before.before.before.before 1 (lit< tt)).0 }
+overflow_add-at c = record { fits = (asks c.before.before.before.before.before 1 (lit< tt)).0 }
 
 pub single_at-requires-2 : goal.single_at-requires-2
-single_at-requires-2 c = (asks c.before.before.before.before 1 (lit< tt)).1
+single_at-requires-2 c = (asks c.before.before.before.before.before 1 (lit< tt)).1
 
 pub put2-requires : goal.put2-requires
-put2-requires c = c.before.before.before.before.before.requires.1
+put2-requires c = c.requires.1

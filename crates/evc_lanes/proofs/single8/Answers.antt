@@ -6,70 +6,72 @@ use lib.Dec.{lit<}
 use Rattle.evc_filter.specs.Inner.{Under, single_at}
 use Rattle.evc_lanes.proofs.Lanes.{lane, first_lane}
 use Rattle.evc_lanes.proofs.single8.Goals as goal
+use Rattle.evc_lanes.proofs.single8.Lts as place
+use Rattle.evc_lanes.proofs.single8.Reads.{Pre, Post}
+use Rattle.evc_lanes.proofs.single8.Tie.{the-claims as claims}
 
 -- what sample x asks
-asks : (s : goal.Start) (x : ℕ) → x < 8 → (s.args.at + x < 18446744073709551616) × Under 1023 s.args.s.now (s.args.at + x) s.args.o s.args.taps
+asks : (s : place.Start claims Pre Post) (x : ℕ) → x < 8 → (s.args.at + x < 18446744073709551616) × Under 1023 s.args.s.now (s.args.at + x) s.args.o s.args.taps
 asks s x l = (omega arith, lane s.requires.0 x l)
 
 pub returns : goal.returns
 returns c =
-    let p = c.before.before in
-    let a = p.before.before.before.before.before.before.before.before.before.before.before.before.args in
+    let a = c.args in
     let z : a.at ≡ a.at + 0 = omega arith in
-    p.put8.ensures (λ (x : ℕ). single_at a.s.now (a.at + x) a.o a.taps)
-    (p.before.before.before.before.before.before.before.before.single_at.ensures ∙ ap (λ (i : ℕ). single_at a.s.now i a.o a.taps) z)
-    p.before.before.before.before.before.before.before.single_at-2.ensures
-    p.before.before.before.before.before.before.single_at-3.ensures
-    p.before.before.before.before.before.single_at-4.ensures
-    p.before.before.before.before.single_at-5.ensures
-    p.before.before.before.single_at-6.ensures
-    p.before.before.single_at-7.ensures
-    p.before.single_at-8.ensures
+    c.put8.ensures (λ (x : ℕ). single_at a.s.now (a.at + x) a.o a.taps)
+    (c.single_at.ensures ∙ ap (λ (i : ℕ). single_at a.s.now i a.o a.taps) z)
+    c.single_at-2.ensures
+    c.single_at-3.ensures
+    c.single_at-4.ensures
+    c.single_at-5.ensures
+    c.single_at-6.ensures
+    c.single_at-7.ensures
+    c.single_at-8.ensures
 
 pub single_at-requires : goal.single_at-requires
-single_at-requires c = first_lane c.before.before.before.requires.0 (lit< tt)
+single_at-requires c = first_lane c.requires.0 (lit< tt)
 
 pub overflow_add-at : goal.overflow_add-at
-overflow_add-at c = record { fits = (asks c.before.before.before.before 1 (lit< tt)).0 }
+overflow_add-at c = record { fits = (asks c.before.before.before.before.before 1 (lit< tt)).0 }
 
 pub single_at-requires-2 : goal.single_at-requires-2
-single_at-requires-2 c = (asks c.before.before.before.before 1 (lit< tt)).1
+single_at-requires-2 c = (asks c.before.before.before.before.before 1 (lit< tt)).1
 
 pub overflow_add-at-2 : goal.overflow_add-at-2
-overflow_add-at-2 c = record { fits = (asks c.before.before.before.before.before 2 (lit< tt)).0 }
+overflow_add-at-2 c = record { fits = (asks c.before.before.before.before.before.before 2 (lit< tt)).0 }
 
 pub single_at-requires-3 : goal.single_at-requires-3
-single_at-requires-3 c = (asks c.before.before.before.before.before 2 (lit< tt)).1
+single_at-requires-3 c = (asks c.before.before.before.before.before.before 2 (lit< tt)).1
 
 pub overflow_add-at-3 : goal.overflow_add-at-3
-overflow_add-at-3 c = record { fits = (asks c.before.before.before.before.before.before 3 (lit< tt)).0 }
+overflow_add-at-3 c = record { fits = (asks c.before.before.before.before.before.before.before 3 (lit< tt)).0 }
 
 pub single_at-requires-4 : goal.single_at-requires-4
-single_at-requires-4 c = (asks c.before.before.before.before.before.before 3 (lit< tt)).1
+single_at-requires-4 c = (asks c.before.before.before.before.before.before.before 3 (lit< tt)).1
 
 pub overflow_add-at-4 : goal.overflow_add-at-4
-overflow_add-at-4 c = record { fits = (asks c.before.before.before.before.before.before.before 4 (lit< tt)).0 }
+overflow_add-at-4 c = record { fits = (asks c.before.before.before.before.before.before.before.before 4 (lit< tt)).0 }
 
 pub single_at-requires-5 : goal.single_at-requires-5
-single_at-requires-5 c = (asks c.before.before.before.before.before.before.before 4 (lit< tt)).1
+single_at-requires-5 c = (asks c.before.before.before.before.before.before.before.before 4 (lit< tt)).1
 
 pub overflow_add-at-5 : goal.overflow_add-at-5
-overflow_add-at-5 c = record { fits = (asks c.before.before.before.before.before.before.before.before 5 (lit< tt)).0 }
+overflow_add-at-5 c = record { fits = (asks c.before.before.before.before.before.before.before.before.before 5 (lit< tt)).0 }
 
 pub single_at-requires-6 : goal.single_at-requires-6
-single_at-requires-6 c = (asks c.before.before.before.before.before.before.before.before 5 (lit< tt)).1
+single_at-requires-6 c = (asks c.before.before.before.before.before.before.before.before.before 5 (lit< tt)).1
 
 pub overflow_add-at-6 : goal.overflow_add-at-6
-overflow_add-at-6 c = record { fits = (asks c.before.before.before.before.before.before.before.before.before 6 (lit< tt)).0 }
+overflow_add-at-6 c = record { fits = (asks c.before.before.before.before.before.before.before.before.before.before 6 (lit< tt)).0 }
 
 pub single_at-requires-7 : goal.single_at-requires-7
-single_at-requires-7 c = (asks c.before.before.before.before.before.before.before.before.before 6 (lit< tt)).1
+single_at-requires-7 c = (asks c.before.before.before.before.before.before.before.before.before.before 6 (lit< tt)).1
 
 pub overflow_add-at-7 : goal.overflow_add-at-7
-overflow_add-at-7 c = record { fits = (asks c.before.before.before.before.before.before.before.before.before.before 7 (lit< tt)).0 }
+overflow_add-at-7 c = record { fits = (asks c.before.before.before.before.before.before.before.before.before.before.before 7 (lit< tt)).0 }
 
 pub single_at-requires-8 : goal.single_at-requires-8
-single_at-requires-8 c = (asks c.before.before.before.before.before.before.before.before.before.before 7 (lit< tt)).1
+single_at-requires-8 c = (asks c.before.before.before.before.before.before.before.before.before.before.before 7 (lit< tt)).1
 
 pub put8-requires : goal.put8-requires
-put8-requires c = c.before.before.before.before.before.before.before.before.before.before.before.requires.1
+put8-requires c = c.requires.1

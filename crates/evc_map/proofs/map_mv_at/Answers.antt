@@ -4,4 +4,4 @@ use borrow.Author.Rules.{rules}
 use Rattle.evc_map.proofs.map_mv_at.Goals as goal
 
 pub returns : goal.returns
-returns c = rw (sym c.before.index.ensures) (search rules)
+returns c = rw (sym c.index.ensures) (search rules)

@@ -6,7 +6,7 @@ use lib.Dec.{ltb}
 use Rattle.evc_map.proofs.map_short.Goals as goal
 
 pub overflow_mul-result : goal.overflow_mul-result
-overflow_mul-result c = record { fits = omega (arith, c.index.ensures, c.before.unit_count.ensures.1) }
+overflow_mul-result c = record { fits = omega (arith, c.index.ensures, c.unit_count.ensures.1) }
 
 pub returns : goal.returns
-returns c = ap (λ (n : ℕ). ltb c.before.before.args.map_mv (4 * n)) (c.index.ensures ∙ c.before.unit_count.ensures.0)
+returns c = ap (λ (n : ℕ). ltb c.args.map_mv (4 * n)) (c.index.ensures ∙ c.unit_count.ensures.0)

@@ -15,5 +15,5 @@ made map scup lidx x y p q = simp (p, q, add-zero)
 
 pub returns : goal.returns
 returns c =
-    let a = c.before.before.args in
-    made a.map-mv.now a.scup.0 a.lidx _ _ (res w16 c.before.map_mv_at.type-inv ∙ c.before.map_mv_at.ensures) (res w16 c.map_mv_at-2.type-inv ∙ c.map_mv_at-2.ensures)
+    let a = c.args in
+    made a.map-mv.now a.scup.0 a.lidx _ _ (res w16 c.map_mv_at.type-inv ∙ c.map_mv_at.ensures) (res w16 c.map_mv_at-2.type-inv ∙ c.map_mv_at-2.ensures)

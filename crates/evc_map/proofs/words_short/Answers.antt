@@ -4,4 +4,4 @@ use lib.Dec.{ltb}
 use Rattle.evc_map.proofs.words_short.Goals as goal
 
 pub returns : goal.returns
-returns c = ap (ltb c.before.before.args.words) (c.index.ensures ∙ c.before.unit_count.ensures.0)
+returns c = ap (ltb c.args.words) (c.index.ensures ∙ c.unit_count.ensures.0)

@@ -13,6 +13,9 @@ use Rattle.evc_mc.specs.Inner.{block_sample, RowSmall, BlockSmall}
 use Rattle.evc_mc.proofs.Checks.{Sides, sides}
 use Rattle.evc_mc.proofs.Samples.{size_of, component_room}
 use Rattle.evc_mc.proofs.average_block.Goals as goal
+use Rattle.evc_mc.proofs.average_block.Lts as place
+use Rattle.evc_mc.proofs.average_block.Reads.{Pre, Post}
+use Rattle.evc_mc.proofs.average_block.Tie.{the-claims as claims}
 
 -- a component's samples as one run
 row_small : (b : EvcBlock) (d : List ℕ) (c : Component) (o : ℕ) → o ≡ offset_of c → BlockSmall b d → RowSmall d o (size_of b c)
@@ -58,57 +61,40 @@ module _ (b : EvcBlock) (p q : List ℕ) where
       ∙ plane cr d₂ r er (λ i. behind d₂ d₁ o (size_of b cb) r _ e₂ (omega arith) i ∙ behind d₁ p 0 (size_of b luma) r _ e₁ (omega arith) i)
       ∙ ap (with_component b cr (mean cr)) (e₂ ∙ plane cb d₁ o eo (λ i. behind d₁ p 0 (size_of b luma) o _ e₁ (omega arith) i) ∙ ap (with_component b cb (mean cb)) (e₁ ∙ plane luma p 0 refl (λ i. refl)))
 
-abbrev start : goal.After-average_plane-arg-1 → goal.Start
-start c = c.before.before.before.before.before.before.before
-
-abbrev second : goal.After-average_plane-arg-2-1 → goal.After-average_plane-arg-1
-second c = c.before.before.before.before
-
-abbrev third : goal.After-average_plane-arg-3-1 → goal.After-average_plane-arg-2-1
-third c = c.before.before.before.before
-
-known : (s : goal.Start) → Sides s.args.b
+known : (s : place.Start claims Pre Post) → Sides s.args.b
 known s = sides s.args.b s.requires.b_value.0
 
 pub average_plane-requires : goal.average_plane-requires
 average_plane-requires c =
-    let s = start c in
-    let b = s.args.b in
-    let r = component_room b (known s) luma in record { n_in_bounds = (omega (arith, s.requires.b_value.1), omega (arith, s.requires.b_value.2)); row_small = (row_small b s.args.pred0.now luma 0 refl s.requires.block_small.0, row_small b s.args.pred1.now luma 0 refl s.requires.block_small.1) }
+    let b = c.args.b in
+    let r = component_room b (known c.before.before.before.before.before.before.before.before) luma in record { n_in_bounds = (omega (arith, c.requires.b_value.1), omega (arith, c.requires.b_value.2)); row_small = (row_small b c.args.pred0.now luma 0 refl c.requires.block_small.0, row_small b c.args.pred1.now luma 0 refl c.requires.block_small.1) }
 
 pub average_plane-requires-2 : goal.average_plane-requires-2
 average_plane-requires-2 c =
-    let s = start (second c) in
-    let b = s.args.b in
-    let x = component_room b (known s) luma in
-    let r = component_room b (known s) cb in
-    let o = c.before.before.before.before.before.before.cu_dim_offset-offset_u.ensures in
-    let k = c.before.before.before.average_plane in record { n_in_bounds = (omega (arith, o, k.auto.0, s.requires.b_value.1), omega (arith, o, s.requires.b_value.2)); row_small = (small_behind _ _ _ _ _ _ _ k.ensures (omega (arith, o)) (row_small b s.args.pred0.now cb _ o s.requires.block_small.0), row_small b s.args.pred1.now cb _ o s.requires.block_small.1) }
+    let b = c.args.b in
+    let x = component_room b (known c.before.before.before.before.before.before.before.before.before.before.before.before) luma in
+    let r = component_room b (known c.before.before.before.before.before.before.before.before.before.before.before.before) cb in
+    let o = c.cu_dim_offset-offset_u.ensures in
+    let k = c.average_plane in record { n_in_bounds = (omega (arith, o, k.auto.0, c.requires.b_value.1), omega (arith, o, c.requires.b_value.2)); row_small = (small_behind _ _ _ _ _ _ _ k.ensures (omega (arith, o)) (row_small b c.args.pred0.now cb _ o c.requires.block_small.0), row_small b c.args.pred1.now cb _ o c.requires.block_small.1) }
 
 pub average_plane-requires-3 : goal.average_plane-requires-3
 average_plane-requires-3 c =
-    let d = third c in
-    let s = start (second d) in
-    let b = s.args.b in
-    let x = component_room b (known s) luma in
-    let y = component_room b (known s) cb in
-    let r = component_room b (known s) cr in
-    let o = d.before.before.before.before.before.before.cu_dim_offset-offset_u.ensures in
-    let q = c.before.before.before.before.before.before.before.before.before.cu_dim_offset-offset_v.ensures in
-    let k = d.before.before.before.average_plane in
-    let l = c.before.before.before.average_plane-2 in record { n_in_bounds = (omega (arith, q, k.kept.0, l.auto.0, s.requires.b_value.1), omega (arith, q, s.requires.b_value.2)); row_small = (small_behind _ _ _ _ _ _ _ l.ensures (omega (arith, o, q)) (small_behind _ _ _ _ _ _ _ k.ensures (omega (arith, q)) (row_small b s.args.pred0.now cr _ q s.requires.block_small.0)), row_small b s.args.pred1.now cr _ q s.requires.block_small.1) }
+    let b = c.args.b in
+    let x = component_room b (known c.before.before.before.before.before.before.before.before.before.before.before.before.before.before.before.before) luma in
+    let y = component_room b (known c.before.before.before.before.before.before.before.before.before.before.before.before.before.before.before.before) cb in
+    let r = component_room b (known c.before.before.before.before.before.before.before.before.before.before.before.before.before.before.before.before) cr in
+    let o = c.cu_dim_offset-offset_u.ensures in
+    let q = c.cu_dim_offset-offset_v.ensures in
+    let k = c.average_plane in
+    let l = c.average_plane-2 in record { n_in_bounds = (omega (arith, q, k.kept.0, l.auto.0, c.requires.b_value.1), omega (arith, q, c.requires.b_value.2)); row_small = (small_behind _ _ _ _ _ _ _ l.ensures (omega (arith, o, q)) (small_behind _ _ _ _ _ _ _ k.ensures (omega (arith, q)) (row_small b c.args.pred0.now cr _ q c.requires.block_small.0)), row_small b c.args.pred1.now cr _ q c.requires.block_small.1) }
 
 pub returns : goal.returns
 returns c =
-    let z = c.before.before in
-    let y = z.before.before.before.before in
-    let x = y.before.before.before.before in
-    let s = x.before.before.before.before.before.before.before.before in
-    done s.args.b s.args.pred0.now s.args.pred1.now (known s) _ _ _ _ _ x.before.before.before.cu_dim_offset-offset_u.ensures x.before.before.cu_dim_offset-offset_v.ensures
-    x.average_plane.ensures y.average_plane-2.ensures z.average_plane-3.ensures
+    done c.args.b c.args.pred0.now c.args.pred1.now (known c.before.before.before.before.before.before.before.before.before.before.before.before.before.before.before.before.before.before.before) _ _ _ _ _ c.cu_dim_offset-offset_u.ensures c.cu_dim_offset-offset_v.ensures
+    c.average_plane.ensures c.average_plane-2.ensures c.average_plane-3.ensures
 
 pub overflow_mul-chroma : goal.overflow_mul-chroma
-overflow_mul-chroma c = record { fits = omega (arith, component_room _ (known c.before.before.before.before) cb) }
+overflow_mul-chroma c = record { fits = omega (arith, component_room _ (known c.before.before.before.before.before) cb) }
 
 pub overflow_mul-h : goal.overflow_mul-h
-overflow_mul-h c = record { fits = omega (arith, component_room _ (known (start c)) luma) }
+overflow_mul-h c = record { fits = omega (arith, component_room _ (known c.before.before.before.before.before.before.before.before) luma) }

@@ -19,27 +19,25 @@ unfolding with_row
 loop-i-init c = (omega arith, refl, refl)
 
 -- both samples are at most 1023
-small : (c : goal.In-loop-i) → let s = c.before.before in let i = c.before.loop-i.i in (get_or c.before.loop-i.pred0 (s.args.offset + i) 0 ≤ 1023) × (get_or s.args.pred1.now (s.args.offset + i) 0 ≤ 1023)
+small : (c : goal.In-loop-i) → let i = c.loop-i.i in (get_or c.loop-i.pred0 (c.args.offset + i) 0 ≤ 1023) × (get_or c.args.pred1.now (c.args.offset + i) 0 ≤ 1023)
 small c =
-    let s = c.before.before in
-    let i = c.before.loop-i.i in
-    let lt : i < s.args.n = omega arith in
-    (omega (arith, still _ _ _ _ _ c.before.loop-i.invariant.2, s.requires.row_small.0 i lt), s.requires.row_small.1 i lt)
+    let i = c.loop-i.i in
+    let lt : i < c.args.n = omega arith in
+    (omega (arith, still _ _ _ _ _ c.loop-i.invariant.2, c.requires.row_small.0 i lt), c.requires.row_small.1 i lt)
 
 pub overflow_add-pred0-in-loop-i-2 : goal.overflow_add-pred0-in-loop-i-2
-overflow_add-pred0-in-loop-i-2 c = record { fits = omega (arith, small c.before.before) }
+overflow_add-pred0-in-loop-i-2 c = record { fits = omega (arith, small c.before.before.before) }
 
 pub overflow_add-pred0-in-loop-i-3 : goal.overflow_add-pred0-in-loop-i-3
-overflow_add-pred0-in-loop-i-3 c = record { fits = omega (arith, small c.before.before) }
+overflow_add-pred0-in-loop-i-3 c = record { fits = omega (arith, small c.before.before.before) }
 
 pub loop-i-preserved : goal.loop-i-preserved
 loop-i-preserved c =
-    let i = c.before.before.before.loop-i.invariant in
-    let s = c.before.before.before.before in
-    (omega arith, simp length-set i.1, row_step _ _ _ _ _ _ i.2 (ap (λ (v : ℕ). average v (get_or s.args.pred1.now (s.args.offset + c.before.before.before.loop-i.i) 0)) (still _ _ _ _ _ i.2)))
+    let i = c.loop-i.invariant in
+    (omega arith, simp length-set i.1, row_step _ _ _ _ _ _ i.2 (ap (λ (v : ℕ). average v (get_or c.args.pred1.now (c.args.offset + c.loop-i.i) 0)) (still _ _ _ _ _ i.2)))
 
 pub returns : goal.returns
-returns c = let i = c.before.loop-i.invariant in row_done _ _ _ _ _ _ i.2 i.0 c.loop-i-test.false
+returns c = let i = c.loop-i.invariant in row_done _ _ _ _ _ _ i.2 i.0 c.loop-i-test.false
 
 pub overflow_add-pred0 : goal.overflow_add-pred0
 overflow_add-pred0 c = omega arith
@@ -75,4 +73,4 @@ pub loop-i-smaller : goal.loop-i-smaller
 loop-i-smaller c = omega arith
 
 pub shape_of-pred0 : goal.shape_of-pred0
-shape_of-pred0 c = c.before.loop-i.invariant.1
+shape_of-pred0 c = c.loop-i.invariant.1

@@ -11,6 +11,9 @@ use Rattle.evc_def.proofs.Codes.{stops}
 use Rattle.evc_mc.specs.Block.{RefPicList, ref_pic_list, with_samples, list_sample, first_sample, is_bi, mc2_code, mc2_first, mc2_second}
 use Rattle.evc_mc.proofs.Answers.{silent, reports}
 use Rattle.evc_mc.proofs.evc_mc2.Goals as goal
+use Rattle.evc_mc.proofs.evc_mc2.Lts as place
+use Rattle.evc_mc.proofs.evc_mc2.Reads.{Pre, Post}
+use Rattle.evc_mc.proofs.evc_mc2.Tie.{the-claims as claims}
 
 module _ (b : EvcBlock) (l m : RefPicList) (p q : List ℕ) where
   block_refused : (code : ℕ) → code ≡ first_of (block_checks b) → (code ≡ 0 → ⊥) → code ≡ mc2_code b l m p q
@@ -26,66 +29,56 @@ module _ (b : EvcBlock) (l m : RefPicList) (p q : List ℕ) where
   unfolding mc2_first mc2_second
   predicted z d e f g = rw z (f, g)
 
-abbrev start : goal.After-block_code-block_code → goal.Start
-start c = c.before.before.before.before.before.before.before.before.before
-
 pub returns-then-block_code-ne0 : goal.returns-then-block_code-ne0
 returns-then-block_code-ne0 c =
-    let t = c.before in
-    let a = (start t.before).args in
+    let a = c.args in
     let l = ref_pic_list a.list0 a.y0.now a.u0.now a.v0.now in
     let m = ref_pic_list a.list1 a.y1.now a.u1.now a.v1.now in
-    let e = block_refused a.block l m a.pred0.now a.pred1.now _ t.before.block_code-block_code.ensures t.if-block_code-ne0.true in
-    (silent _ _ _ _ _ e t.if-block_code-ne0.true _ c.refused.ensures, untouched a.block l m a.pred0.now a.pred1.now _ e t.if-block_code-ne0.true)
+    let e = block_refused a.block l m a.pred0.now a.pred1.now _ c.block_code-block_code.ensures c.if-block_code-ne0.true in
+    (silent _ _ _ _ _ e c.if-block_code-ne0.true _ c.refused.ensures, untouched a.block l m a.pred0.now a.pred1.now _ e c.if-block_code-ne0.true)
 
-good : (c : goal.Else-block_code-ne0) → first_of (block_checks (start c.before).args.block) ≡ 0
-good c = sym c.before.block_code-block_code.ensures ∙ c.if-block_code-ne0.false
+good : (c : place.Else1 claims Pre Post) → first_of (block_checks c.args.block) ≡ 0
+good c = sym c.block_code-block_code.ensures ∙ c.if-block_code-ne0.false
 
 pub mc2_code-code-requires : goal.mc2_code-code-requires
 mc2_code-code-requires c =
-    let k = c.before.before in
-    (good k.before.before, k.before.clipped_place-gmv0.ensures, k.clipped_place-gmv1.ensures)
+    (good c.before.before.before.before.before, c.clipped_place-gmv0.ensures, c.clipped_place-gmv1.ensures)
 
 pub returns-then-code-ne0 : goal.returns-then-code-ne0
 returns-then-code-ne0 c =
-    let t = c.before in
-    let a = (start t.before.before.before.before.before.before.before).args in
+    let a = c.args in
     let l = ref_pic_list a.list0 a.y0.now a.u0.now a.v0.now in
     let m = ref_pic_list a.list1 a.y1.now a.u1.now a.v1.now in
-    let e = t.before.mc2_code-code.ensures in
-    (silent _ _ _ _ _ e t.if-code-ne0.true _ c.refused-then-code-ne0.ensures, untouched a.block l m a.pred0.now a.pred1.now _ e t.if-code-ne0.true)
+    let e = c.mc2_code-code.ensures in
+    (silent _ _ _ _ _ e c.if-code-ne0.true _ c.refused-then-code-ne0.ensures, untouched a.block l m a.pred0.now a.pred1.now _ e c.if-code-ne0.true)
 
-accepted : (c : goal.Else-code-ne0) → let a = (start c.before.before.before.before.before.before.before).args in mc2_code a.block (ref_pic_list a.list0 a.y0.now a.u0.now a.v0.now) (ref_pic_list a.list1 a.y1.now a.u1.now a.v1.now) a.pred0.now a.pred1.now ≡ 0
-accepted c = sym c.before.mc2_code-code.ensures ∙ c.if-code-ne0.false
+accepted : (c : place.Else2 claims Pre Post) → let a = c.args in mc2_code a.block (ref_pic_list a.list0 a.y0.now a.u0.now a.v0.now) (ref_pic_list a.list1 a.y1.now a.u1.now a.v1.now) a.pred0.now a.pred1.now ≡ 0
+accepted c = sym c.mc2_code-code.ensures ∙ c.if-code-ne0.false
 
 pub predict_lists-requires : goal.predict_lists-requires
-predict_lists-requires c =
-    let f = c.before.before in
-    let k = f.before.before.before.before in record { gmv0_value = (k.before.clipped_place-gmv0.ensures, k.clipped_place-gmv1.ensures); pred1_value = accepted f }
+predict_lists-requires c = record { gmv0_value = (c.clipped_place-gmv0.ensures, c.clipped_place-gmv1.ensures); pred1_value = accepted c.before.before.before }
 
 -- the blocks are predicted, and the reports are left
-checked : (c : goal.After-slice_known-4-1) → first_of (block_checks (start c.before.before.before.before.before.before.before.before.before.before.before.before.before.before).args.block) ≡ 0
+checked : (c : place.After-slice_known4 claims Pre Post) → first_of (block_checks c.args.block) ≡ 0
 checked c = good c.before.before.before.before.before.before.before.before.before.before.before.before.before
 
 pub returns : goal.returns
 returns c =
-    let k = c.before.before.before.before.before.before in
-    let f = k.before.before.before in
-    let a = (start f.before.before.before.before.before.before.before).args in
+    let a = c.args in
     let l = ref_pic_list a.list0 a.y0.now a.u0.now a.v0.now in
     let m = ref_pic_list a.list1 a.y1.now a.u1.now a.v1.now in (
-      reports _ _ _ _ _ f.before.mc2_code-code.ensures (accepted f) _ _ c.before.list_moved.ensures c.list_moved-2.ensures,
-      predicted a.block l m a.pred0.now a.pred1.now (accepted f) _ _ k.predict_lists.ensures.pred0_after k.predict_lists.ensures.pred1_after,
+      reports _ _ _ _ _ c.mc2_code-code.ensures (accepted c.before.before.before.before.before.before.before.before.before.before) _ _ c.list_moved.ensures c.list_moved-2.ensures,
+      predicted a.block l m a.pred0.now a.pred1.now (accepted c.before.before.before.before.before.before.before.before.before.before) _ _ c.predict_lists.ensures.pred0_after c.predict_lists.ensures.pred1_after,
     )
 
 pub clipped_place-gmv0-requires : goal.clipped_place-gmv0-requires
-clipped_place-gmv0-requires c = allowed_block _ (good c)
+clipped_place-gmv0-requires c = allowed_block _ (good c.before.before)
 
 pub clipped_place-gmv1-requires : goal.clipped_place-gmv1-requires
-clipped_place-gmv1-requires c = allowed_block _ (good c.before)
+clipped_place-gmv1-requires c = allowed_block _ (good c.before.before.before.before)
 
 pub list_moved-requires : goal.list_moved-requires
-list_moved-requires c = checked c
+list_moved-requires c = checked c.before
 
 pub list_moved-requires-2 : goal.list_moved-requires-2
-list_moved-requires-2 c = checked c.before
+list_moved-requires-2 c = checked c.before.before

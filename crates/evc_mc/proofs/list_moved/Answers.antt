@@ -20,10 +20,10 @@ module _ (b : EvcBlock) (l : EvcList) (r : EvcMoved) where
   used u e = rw (not-false l.used u) e
 
 pub returns-then-not-list : goal.returns-then-not-list
-returns-then-not-list c = not_used _ _ _ c.before.if-not-list.true c.nothing_moved.ensures
+returns-then-not-list c = not_used _ _ _ c.if-not-list.true c.nothing_moved.ensures
 
 pub moved_mv-requires : goal.moved_mv-requires
-moved_mv-requires c = allowed_block _ c.before.before.requires
+moved_mv-requires c = allowed_block _ c.requires
 
 pub returns : goal.returns
-returns c = used _ _ _ c.before.if-not-list.false c.moved_mv.ensures
+returns c = used _ _ _ c.if-not-list.false c.moved_mv.ensures

@@ -11,5 +11,5 @@ if_used b l short e = rw e
 
 pub returns : goal.returns
 returns c =
-    let a = c.before.before.before.before.before.args in
-    if_used a.b (ref_pic_list a.list a.y.now a.u.now a.v.now) _ c.before.planes_short.ensures
+    let a = c.args in
+    if_used a.b (ref_pic_list a.list a.y.now a.u.now a.v.now) _ c.planes_short.ensures

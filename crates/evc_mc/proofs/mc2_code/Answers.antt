@@ -13,6 +13,9 @@ use Rattle.evc_int.proofs.Bools.{none_true}
 use Rattle.evc_mc.specs.Block.{RefPicList, ref_pic_list, list_short, poc_exceeds, list_exceeds, pred_len, mc2_code}
 use Rattle.evc_mc.proofs.Checks.{sides}
 use Rattle.evc_mc.proofs.mc2_code.Goals as goal
+use Rattle.evc_mc.proofs.mc2_code.Lts as place
+use Rattle.evc_mc.proofs.mc2_code.Reads.{Pre, Post}
+use Rattle.evc_mc.proofs.mc2_code.Tie.{the-claims as claims}
 
 module _ (b : EvcBlock) (l m : RefPicList) (p q : List ℕ) where
   module _ (good : first_of (block_checks b) ≡ 0) where
@@ -42,71 +45,55 @@ module _ (b : EvcBlock) (l m : RefPicList) (p q : List ℕ) where
 either_is : (a b c d : Bool) → a ≡ c → b ≡ d → (a || b) ≡ (c || d)
 either_is a b c d e f = ap₂ ◌||◌ e f
 
-abbrev start : goal.Else-not-list0-list1 → goal.Start
-start c = c.before.before.before.before.before.before.before.before.before.before.before
-
 pub returns-then-not-list0-list1 : goal.returns-then-not-list0-list1
-returns-then-not-list0-list1 c = code_3 _ _ _ _ _ c.before.before.before.before.before.before.before.before.before.before.before.requires.0 c.if-not-list0-list1.true
+returns-then-not-list0-list1 c = code_3 _ _ _ _ _ c.requires.0 c.if-not-list0-list1.true
 
-picture : (c : goal.Else-not-list0-list1) → bad_picture (start c).args.b.pic_w (start c).args.b.pic_h ≡ false
-picture c = (sides _ (start c).requires.0).picture
+picture : (c : place.Else1 claims Pre Post) → bad_picture c.args.b.pic_w c.args.b.pic_h ≡ false
+picture c = (sides _ c.requires.0).picture
 
 -- the tests of the code are those of the definition
-short : (c : goal.After-list_short-2) → let a = (start c.before.before).args in
-    (c.before.list_short.result || c.list_short-2.result || ltb (length a.pred0.now) pred_len || ltb (length a.pred1.now) pred_len)
+short : (c : place.After-list_short2 claims Pre Post) → let a = c.args in
+    (c.list_short.result || c.list_short-2.result || ltb (length a.pred0.now) pred_len || ltb (length a.pred1.now) pred_len)
     ≡ (list_short a.b (ref_pic_list a.list0 a.y0.now a.u0.now a.v0.now) || list_short a.b (ref_pic_list a.list1 a.y1.now a.u1.now a.v1.now) || ltb (length a.pred0.now) pred_len || ltb (length a.pred1.now) pred_len)
 short c =
-    let a = (start c.before.before).args in
-    ap₂ (λ (s t : Bool). s || t || ltb (length a.pred0.now) pred_len || ltb (length a.pred1.now) pred_len) c.before.list_short.ensures c.list_short-2.ensures
+    let a = c.args in
+    ap₂ (λ (s t : Bool). s || t || ltb (length a.pred0.now) pred_len || ltb (length a.pred1.now) pred_len) c.list_short.ensures c.list_short-2.ensures
 
 pub returns-then-list_short-pred0 : goal.returns-then-list_short-pred0
 returns-then-list_short-pred0 c =
-    let e = c.before.before.before in
-    code_4 _ _ _ _ _ (start e).requires.0 e.if-not-list0-list1.false (sym (short c.before) ∙ c.if-list_short-pred0.true)
+    code_4 _ _ _ _ _ c.requires.0 c.if-not-list0-list1.false (sym (short c.before.before) ∙ c.if-list_short-pred0.true)
 
-poc : (c : goal.After-poc_exceeds-2) → let a = (start c.before.before.before.before.before).args in
-    (c.before.poc_exceeds.result || c.poc_exceeds-2.result) ≡ (poc_exceeds a.list0 || poc_exceeds a.list1)
-poc c = ap₂ ◌||◌ c.before.poc_exceeds.ensures c.poc_exceeds-2.ensures
+poc : (c : place.After-poc_exceeds2 claims Pre Post) → let a = c.args in
+    (c.poc_exceeds.result || c.poc_exceeds-2.result) ≡ (poc_exceeds a.list0 || poc_exceeds a.list1)
+poc c = ap₂ ◌||◌ c.poc_exceeds.ensures c.poc_exceeds-2.ensures
 
 pub returns-then-poc_exceeds : goal.returns-then-poc_exceeds
 returns-then-poc_exceeds c =
-    let f = c.before.before.before in
-    let e = f.before.before.before in
-    code_5 _ _ _ _ _ (start e).requires.0 e.if-not-list0-list1.false (sym (short f.before) ∙ f.if-list_short-pred0.false) (sym (poc c.before) ∙ c.if-poc_exceeds.true)
+    code_5 _ _ _ _ _ c.requires.0 c.if-not-list0-list1.false (sym (short c.before.before.before.before.before) ∙ c.if-list_short-pred0.false) (sym (poc c.before.before) ∙ c.if-poc_exceeds.true)
 
 -- no plane is short
-long : (f : goal.Else-list_short-pred0) → let a = (start f.before.before.before).args in
+long : (f : place.Else2 claims Pre Post) → let a = f.args in
     (list_short a.b (ref_pic_list a.list0 a.y0.now a.u0.now a.v0.now) ≡ false) × (list_short a.b (ref_pic_list a.list1 a.y1.now a.u1.now a.v1.now) ≡ false)
 long f = none_true _ _ (none_true _ _ (none_true _ _ (sym (short f.before) ∙ f.if-list_short-pred0.false)).0).0
 
 pub list_exceeds-requires : goal.list_exceeds-requires
-list_exceeds-requires c =
-    let f = c.before.before.before in
-    let s = start f.before.before.before in record { b_value = (s.requires.0, s.requires.1); v_value = (long f).0 }
+list_exceeds-requires c = record { b_value = (c.requires.0, c.requires.1); v_value = (long c.before.before.before.before).0 }
 
 pub list_exceeds-requires-2 : goal.list_exceeds-requires-2
-list_exceeds-requires-2 c =
-    let f = c.before.before.before.before in
-    let s = start f.before.before.before in record { b_value = (s.requires.0, s.requires.2); v_value = (long f).1 }
+list_exceeds-requires-2 c = record { b_value = (c.requires.0, c.requires.2); v_value = (long c.before.before.before.before.before).1 }
 
 pub returns-then-list_exceeds : goal.returns-then-list_exceeds
 returns-then-list_exceeds c =
-    let g = c.before.before.before in
-    let f = g.before.before.before in
-    let e = f.before.before.before in
-    code_6 _ _ _ _ _ (start e).requires.0 e.if-not-list0-list1.false (sym (short f.before) ∙ f.if-list_short-pred0.false) (sym (poc g.before) ∙ g.if-poc_exceeds.false)
-    (sym (either_is _ _ _ _ c.before.before.list_exceeds.ensures c.before.list_exceeds-2.ensures) ∙ c.if-list_exceeds.true)
+    code_6 _ _ _ _ _ c.requires.0 c.if-not-list0-list1.false (sym (short c.before.before.before.before.before.before.before.before) ∙ c.if-list_short-pred0.false) (sym (poc c.before.before.before.before.before) ∙ c.if-poc_exceeds.false)
+    (sym (either_is _ _ _ _ c.list_exceeds.ensures c.list_exceeds-2.ensures) ∙ c.if-list_exceeds.true)
 
 pub returns : goal.returns
 returns c =
-    let g = c.before.before.before in
-    let f = g.before.before.before in
-    let e = f.before.before.before in
-    code_0 _ _ _ _ _ (start e).requires.0 e.if-not-list0-list1.false (sym (short f.before) ∙ f.if-list_short-pred0.false) (sym (poc g.before) ∙ g.if-poc_exceeds.false)
-    (sym (either_is _ _ _ _ c.before.before.list_exceeds.ensures c.before.list_exceeds-2.ensures) ∙ c.if-list_exceeds.false)
+    code_0 _ _ _ _ _ c.requires.0 c.if-not-list0-list1.false (sym (short c.before.before.before.before.before.before.before.before) ∙ c.if-list_short-pred0.false) (sym (poc c.before.before.before.before.before) ∙ c.if-poc_exceeds.false)
+    (sym (either_is _ _ _ _ c.list_exceeds.ensures c.list_exceeds-2.ensures) ∙ c.if-list_exceeds.false)
 
 pub list_short-requires : goal.list_short-requires
-list_short-requires c = picture c
+list_short-requires c = picture c.before
 
 pub list_short-requires-2 : goal.list_short-requires-2
-list_short-requires-2 c = picture c.before
+list_short-requires-2 c = picture c.before.before

@@ -21,6 +21,9 @@ use Rattle.evc_mc.specs.Inner.{Examined, with_list}
 use Rattle.evc_mc.proofs.Checks.{sides, plane_accepted}
 use Rattle.evc_mc.proofs.Samples.{component_room, component_end}
 use Rattle.evc_mc.proofs.predict_list.Goals as goal
+use Rattle.evc_mc.proofs.predict_list.Lts as place
+use Rattle.evc_mc.proofs.predict_list.Reads.{Pre, Post}
+use Rattle.evc_mc.proofs.predict_list.Tie.{the-claims as claims}
 
 module _ (b : EvcBlock) (l : RefPicList) where
   unused : (second : Bool) (p0 p1 : List ℕ) → l.list.used ≡ false → (p0 ≡ cond second p0 (with_list b l p0)) × (p1 ≡ cond second (with_list b l p1) p1)
@@ -76,71 +79,42 @@ module _ (b : EvcBlock) (l : RefPicList) where
 
 pub returns-then-not-list : goal.returns-then-not-list
 returns-then-not-list c =
-    let a = c.before.before.before.before.before.before.before.args in
+    let a = c.args in
     unused a.b (ref_pic_list a.list a.y.now a.u.now a.v.now) a.second a.pred0.now a.pred1.now (not-true _ c.if-not-list.true)
 
-abbrev start : goal.After-position_of-luma → goal.Start
-start p = p.before.before.before.before.before.before.before.before.before.before
-
-used : (p : goal.After-position_of-luma) → (start p).args.list.used ≡ true
-used p = not-false _ p.before.before.before.if-not-list.false
-
--- each component keeps the lengths
-abbrev first : goal.After-predict_component-arg-2-1 → goal.After-position_of-chroma
-first c = c.before.before.before.before
-
-abbrev second : goal.After-predict_component-arg-4-1 → goal.After-predict_component-arg-2-1
-second c = c.before.before.before.before.before.before.before
-
-abbrev third : goal.After-predict_component-arg-6-1 → goal.After-predict_component-arg-4-1
-third c = c.before.before.before.before.before.before.before
+used : (p : place.After-position_of claims Pre Post) → p.args.list.used ≡ true
+used p = not-false _ p.if-not-list.false
 
 pub predict_component-requires : goal.predict_component-requires
 predict_component-requires c =
-    let p = (first c).before in
-    let s = start p in
-    let a = s.args in
-    let r = component_room a.b (sides a.b s.requires.b_value.0) luma in record { readable = reads a.b (ref_pic_list a.list a.y.now a.u.now a.v.now) a.gmv luma _ a.pred0.now s.requires.b_value.0 (s.requires.list_examined (used p) luma) s.requires.pred_len_in_bounds.0 p.position_of-luma.ensures; w_in_bounds = (omega (arith, s.requires.pred_len_in_bounds.0), omega (arith, s.requires.pred_len_in_bounds.1)) }
+    let a = c.args in
+    let r = component_room a.b (sides a.b c.requires.b_value.0) luma in record { readable = reads a.b (ref_pic_list a.list a.y.now a.u.now a.v.now) a.gmv luma _ a.pred0.now c.requires.b_value.0 (c.requires.list_examined (used c.before.before.before.before.before.before.before) luma) c.requires.pred_len_in_bounds.0 c.position_of-luma.ensures; w_in_bounds = (omega (arith, c.requires.pred_len_in_bounds.0), omega (arith, c.requires.pred_len_in_bounds.1)) }
 
 pub predict_component-requires-2 : goal.predict_component-requires-2
 predict_component-requires-2 c =
-    let q = first (second c) in
-    let p = q.before in
-    let s = start p in
-    let a = s.args in
-    let k = c.before.before.before.before.before.before.predict_component.auto.1.1.1.1.1 in
-    let o = (second c).before.before.before.cu_dim_offset-offset_u.ensures in
-    let v = (second c).before.before.cu_dim_offset-offset_v.ensures in
-    let r = component_room a.b (sides a.b s.requires.b_value.0) cb in record { readable = reads a.b (ref_pic_list a.list a.y.now a.u.now a.v.now) a.gmv cb _ a.pred0.now s.requires.b_value.0 (s.requires.list_examined (used p) cb) s.requires.pred_len_in_bounds.0 q.position_of-chroma.ensures; w_in_bounds = (omega (arith, k.0, s.requires.pred_len_in_bounds.0), omega (arith, k.1.0, s.requires.pred_len_in_bounds.1)) }
+    let a = c.args in
+    let k = c.predict_component.auto.1.1.1.1.1 in
+    let o = c.cu_dim_offset-offset_u.ensures in
+    let v = c.cu_dim_offset-offset_v.ensures in
+    let r = component_room a.b (sides a.b c.requires.b_value.0) cb in record { readable = reads a.b (ref_pic_list a.list a.y.now a.u.now a.v.now) a.gmv cb _ a.pred0.now c.requires.b_value.0 (c.requires.list_examined (used c.before.before.before.before.before.before.before.before.before.before.before.before.before.before) cb) c.requires.pred_len_in_bounds.0 c.position_of-chroma.ensures; w_in_bounds = (omega (arith, k.0, c.requires.pred_len_in_bounds.0), omega (arith, k.1.0, c.requires.pred_len_in_bounds.1)) }
 
 pub predict_component-requires-3 : goal.predict_component-requires-3
 predict_component-requires-3 c =
-    let d = third c in
-    let q = first (second d) in
-    let p = q.before in
-    let s = start p in
-    let a = s.args in
-    let k = d.before.before.before.before.before.before.predict_component.kept.1.1.1.1.1 in
-    let m = c.before.before.before.before.before.before.predict_component-2.auto.1.1.1.1.1 in
-    let o = (second d).before.before.cu_dim_offset-offset_v.ensures in
-    let r = component_room a.b (sides a.b s.requires.b_value.0) cr in record { readable = reads a.b (ref_pic_list a.list a.y.now a.u.now a.v.now) a.gmv cr _ a.pred0.now s.requires.b_value.0 (s.requires.list_examined (used p) cr) s.requires.pred_len_in_bounds.0 q.position_of-chroma.ensures; w_in_bounds = (omega (arith, k.0, m.0, s.requires.pred_len_in_bounds.0), omega (arith, k.1.0, m.1.0, s.requires.pred_len_in_bounds.1)) }
+    let a = c.args in
+    let k = c.predict_component.kept.1.1.1.1.1 in
+    let m = c.predict_component-2.auto.1.1.1.1.1 in
+    let o = c.cu_dim_offset-offset_v.ensures in
+    let r = component_room a.b (sides a.b c.requires.b_value.0) cr in record { readable = reads a.b (ref_pic_list a.list a.y.now a.u.now a.v.now) a.gmv cr _ a.pred0.now c.requires.b_value.0 (c.requires.list_examined (used c.before.before.before.before.before.before.before.before.before.before.before.before.before.before.before.before.before.before.before.before.before) cr) c.requires.pred_len_in_bounds.0 c.position_of-chroma.ensures; w_in_bounds = (omega (arith, k.0, m.0, c.requires.pred_len_in_bounds.0), omega (arith, k.1.0, m.1.0, c.requires.pred_len_in_bounds.1)) }
 
 pub returns : goal.returns
 returns c =
-    let z = c.before.before.before.before in
-    let y = z.before.before.before.before.before.before.before in
-    let x = y.before.before.before.before.before.before.before in
-    let v = x.before.before.before in
-    let q = first x.before in
-    let p = q.before in
-    let s = start p in
-    let a = s.args in
-    done a.b (ref_pic_list a.list a.y.now a.u.now a.v.now) a.gmv s.requires.b_value.1 _ _ p.position_of-luma.ensures q.position_of-chroma.ensures a.second _ _ a.pred0.now a.pred1.now _ _ _ _ _ _ (used p)
-    v.before.cu_dim_offset-offset_u.ensures v.cu_dim_offset-offset_v.ensures
-    x.predict_component.ensures.pred0_after x.predict_component.ensures.pred1_after y.predict_component-2.ensures.pred0_after y.predict_component-2.ensures.pred1_after z.predict_component-3.ensures.pred0_after z.predict_component-3.ensures.pred1_after
+    let a = c.args in
+    done a.b (ref_pic_list a.list a.y.now a.u.now a.v.now) a.gmv c.requires.b_value.1 _ _ c.position_of-luma.ensures c.position_of-chroma.ensures a.second _ _ a.pred0.now a.pred1.now _ _ _ _ _ _ (used c.before.before.before.before.before.before.before.before.before.before.before.before.before.before.before.before.before.before.before.before.before.before.before.before.before.before)
+    c.cu_dim_offset-offset_u.ensures c.cu_dim_offset-offset_v.ensures
+    c.predict_component.ensures.pred0_after c.predict_component.ensures.pred1_after c.predict_component-2.ensures.pred0_after c.predict_component-2.ensures.pred1_after c.predict_component-3.ensures.pred0_after c.predict_component-3.ensures.pred1_after
 
 pub position_of-luma-requires : goal.position_of-luma-requires
-position_of-luma-requires c = let s = c.before.before.before.before.before.before.before.before.before in (sides s.args.b s.requires.b_value.0).picture
+position_of-luma-requires c = (sides c.args.b c.requires.b_value.0).picture
 
 pub position_of-chroma-requires : goal.position_of-chroma-requires
-position_of-chroma-requires c = let s = start c in (sides s.args.b s.requires.b_value.0).picture
+position_of-chroma-requires c = (sides c.args.b c.requires.b_value.0).picture

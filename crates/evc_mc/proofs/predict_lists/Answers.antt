@@ -8,67 +8,56 @@ use Rattle.evc_mc.proofs.Checks.{Accepted, accepts, sides, list_examined}
 use Rattle.evc_mc.proofs.Motion.{same_motion_is}
 use Rattle.evc_mc.proofs.Predictions.{not_same, same, stands, single, both_small, averaged}
 use Rattle.evc_mc.proofs.predict_lists.Goals as goal
+use Rattle.evc_mc.proofs.predict_lists.Lts as place
+use Rattle.evc_mc.proofs.predict_lists.Reads.{Pre, Post}
+use Rattle.evc_mc.proofs.predict_lists.Tie.{the-claims as claims}
 
-good : (s : goal.Start) → let a = s.args in Accepted a.b (ref_pic_list a.list0 a.y0.now a.u0.now a.v0.now) (ref_pic_list a.list1 a.y1.now a.u1.now a.v1.now) a.pred0.now a.pred1.now
+good : (s : place.Start claims Pre Post) → let a = s.args in Accepted a.b (ref_pic_list a.list0 a.y0.now a.u0.now a.v0.now) (ref_pic_list a.list1 a.y1.now a.u1.now a.v1.now) a.pred0.now a.pred1.now
 good s = let a = s.args in accepts a.b (ref_pic_list a.list0 a.y0.now a.u0.now a.v0.now) (ref_pic_list a.list1 a.y1.now a.u1.now a.v1.now) a.pred0.now a.pred1.now s.requires.pred1_value
-
-abbrev start : goal.After-same_motion → goal.Start
-start c = c.before.before.before.before.before.before.before.before.before.before.before.before.before.before.before.before.before.before
-
-abbrev first : goal.After-same_motion → goal.After-predict_list
-first c = c.before.before.before.before.before
 
 pub predict_list-requires : goal.predict_list-requires
 predict_list-requires c =
-    let s = c.before.before.before.before.before.before.before.before.before.before.before.before in
-    let a = s.args in
-    let g = good s in
-    let e = s.requires.gmv0_value.0 in record { b_value = (g.block, e); list_examined = list_examined a.b (ref_pic_list a.list0 a.y0.now a.u0.now a.v0.now) _ g.l_short g.l_exceeds e; pred_len_in_bounds = (g.p_long, g.q_long) }
+    let a = c.args in
+    let g = good c.before.before.before.before.before.before.before.before.before.before.before.before.before in
+    let e = c.requires.gmv0_value.0 in record { b_value = (g.block, e); list_examined = list_examined a.b (ref_pic_list a.list0 a.y0.now a.u0.now a.v0.now) _ g.l_short g.l_exceeds e; pred_len_in_bounds = (g.p_long, g.q_long) }
 
 -- the test of the code is that of the definition
-motion : (c : goal.After-same_motion) → let a = (start c).args in c.same_motion.result ≡ same_motion a.b a.list0 a.list1
+motion : (c : place.After-same_motion claims Pre Post) → let a = c.args in c.same_motion.result ≡ same_motion a.b a.list0 a.list1
 motion c =
-    let a = (start c).args in
-    same_motion_is a.b a.list0 a.list1 _ _ _ (start c).requires.gmv0_value.0 (start c).requires.gmv0_value.1 c.same_motion.ensures
+    let a = c.args in
+    same_motion_is a.b a.list0 a.list1 _ _ _ c.requires.gmv0_value.0 c.requires.gmv0_value.1 c.same_motion.ensures
 
 pub returns-then-both-same_motion : goal.returns-then-both-same_motion
 returns-then-both-same_motion c =
-    let k = c.before in
-    let a = (start k).args in
-    let t = both_true (a.list0.used && a.list1.used) k.same_motion.result c.if-both-same_motion.true in
-    let p = (first k).predict_list.ensures in
-    stands a.b (ref_pic_list a.list0 a.y0.now a.u0.now a.v0.now) (ref_pic_list a.list1 a.y1.now a.u1.now a.v1.now) a.pred0.now a.pred1.now _ _ p.0 p.1 (both_true _ _ t.0).0 (same a.b (ref_pic_list a.list0 a.y0.now a.u0.now a.v0.now) (ref_pic_list a.list1 a.y1.now a.u1.now a.v1.now) (sym (motion k) ∙ t.1))
+    let a = c.args in
+    let t = both_true (a.list0.used && a.list1.used) c.same_motion.result c.if-both-same_motion.true in
+    let p = c.predict_list.ensures in
+    stands a.b (ref_pic_list a.list0 a.y0.now a.u0.now a.v0.now) (ref_pic_list a.list1 a.y1.now a.u1.now a.v1.now) a.pred0.now a.pred1.now _ _ p.0 p.1 (both_true _ _ t.0).0 (same a.b (ref_pic_list a.list0 a.y0.now a.u0.now a.v0.now) (ref_pic_list a.list1 a.y1.now a.u1.now a.v1.now) (sym (motion c.before.before) ∙ t.1))
 
 pub predict_list-requires-2 : goal.predict_list-requires-2
 predict_list-requires-2 c =
-    let k = c.before.before.before in
-    let s = start k in
-    let a = s.args in
-    let g = good s in
-    let e = s.requires.gmv0_value.1 in
-    let n = c.before.before.before.before.before.before.before.before.predict_list.auto.1.1.1.1.1.1 in record { b_value = (g.block, e); list_examined = list_examined a.b (ref_pic_list a.list1 a.y1.now a.u1.now a.v1.now) _ g.m_short g.m_exceeds e; pred_len_in_bounds = (omega (arith, n.0, g.p_long), omega (arith, n.1.0, g.q_long)) }
+    let a = c.args in
+    let g = good c.before.before.before.before.before.before.before.before.before.before.before.before.before.before.before.before.before.before.before.before.before.before in
+    let e = c.requires.gmv0_value.1 in
+    let n = c.predict_list.auto.1.1.1.1.1.1 in record { b_value = (g.block, e); list_examined = list_examined a.b (ref_pic_list a.list1 a.y1.now a.u1.now a.v1.now) _ g.m_short g.m_exceeds e; pred_len_in_bounds = (omega (arith, n.0, g.p_long), omega (arith, n.1.0, g.q_long)) }
 
 -- one list is in use
 pub returns-else-both : goal.returns-else-both
 returns-else-both c =
-    let r = c.before.before.before.before.before in
-    let k = r.before.before.before.before in
-    let a = (start k).args in
-    let g = good (start k) in
-    let p = (first k).predict_list.ensures in
-    let q = r.predict_list-2.ensures in
+    let a = c.args in
+    let g = good c.before.before.before.before.before.before.before.before.before.before.before.before.before.before.before.before.before.before.before.before.before.before.before.before.before.before.before.before in
+    let p = c.predict_list.ensures in
+    let q = c.predict_list-2.ensures in
     single a.b (ref_pic_list a.list0 a.y0.now a.u0.now a.v0.now) (ref_pic_list a.list1 a.y1.now a.u1.now a.v1.now) a.pred0.now a.pred1.now _ _ p.0 p.1 _ _ q.0 q.1 g.some_used c.if-both.false
 
 -- two predictions
 pub average_block-requires : goal.average_block-requires
 average_block-requires c =
-    let r = c.before.before.before.before.before.before.before in
-    let k = r.before.before.before.before in
-    let a = (start k).args in
-    let g = good (start k) in
-    let x = (first k).predict_list in
-    let y = r.predict_list-2 in
-    let t = both_true a.list0.used a.list1.used c.before.before.if-both.true in
+    let a = c.args in
+    let g = good c.before.before.before.before.before.before.before.before.before.before.before.before.before.before.before.before.before.before.before.before.before.before.before.before.before.before.before.before.before in
+    let x = c.predict_list in
+    let y = c.predict_list-2 in
+    let t = both_true a.list0.used a.list1.used c.if-both.true in
     let n = x.kept.1.1.1.1.1.1 in
     let m = y.auto.1.1.1.1.1.1 in record {
       b_value = (g.block, omega (arith, n.0, m.0, g.p_long), omega (arith, n.1.0, m.1.0, g.q_long));
@@ -78,14 +67,12 @@ average_block-requires c =
 
 pub returns-then-both : goal.returns-then-both
 returns-then-both c =
-    let r = c.before.before.before.before.before.before.before.before.before.before in
-    let k = r.before.before.before.before in
-    let a = (start k).args in
-    let g = good (start k) in
-    let x = (first k).predict_list in
-    let y = r.predict_list-2 in
-    let both = c.before.before.before.before.before.if-both.true in
+    let a = c.args in
+    let g = good c.before.before.before.before.before.before.before.before.before.before.before.before.before.before.before.before.before.before.before.before.before.before.before.before.before.before.before.before.before.before.before.before in
+    let x = c.predict_list in
+    let y = c.predict_list-2 in
+    let both = c.if-both.true in
     let t = both_true a.list0.used a.list1.used both in
-    let differs = sym (motion k) ∙ and_false_right (a.list0.used && a.list1.used) _ r.before.before.before.if-both-same_motion.false both in
+    let differs = sym (motion c.before.before.before.before.before.before.before.before.before.before.before.before.before.before) ∙ and_false_right (a.list0.used && a.list1.used) _ c.if-both-same_motion.false both in
     averaged a.b (ref_pic_list a.list0 a.y0.now a.u0.now a.v0.now) (ref_pic_list a.list1 a.y1.now a.u1.now a.v1.now) a.pred0.now a.pred1.now _ _ x.ensures.0 x.ensures.1 _ _ y.ensures.0 y.ensures.1 t.0 t.1
-    (sides a.b g.block) g.p_long g.q_long _ (not_same a.b (ref_pic_list a.list0 a.y0.now a.u0.now a.v0.now) (ref_pic_list a.list1 a.y1.now a.u1.now a.v1.now) both differs) c.before.before.average_block.ensures
+    (sides a.b g.block) g.p_long g.q_long _ (not_same a.b (ref_pic_list a.list0 a.y0.now a.u0.now a.v0.now) (ref_pic_list a.list1 a.y1.now a.u1.now a.v1.now) both differs) c.average_block.ensures

@@ -10,4 +10,4 @@ made : (code : ℕ) (p q : EvcMoved) → p ≡ nothing_moved → q ≡ nothing_m
 made code p q e f = rw (e, f)
 
 pub returns : goal.returns
-returns c = made _ _ _ c.before.nothing_moved.ensures c.nothing_moved-2.ensures
+returns c = made _ _ _ c.nothing_moved.ensures c.nothing_moved-2.ensures

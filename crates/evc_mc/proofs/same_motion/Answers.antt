@@ -5,4 +5,4 @@ use lib.Dec.{eqb}
 use Rattle.evc_mc.proofs.same_motion.Goals as goal
 
 pub returns : goal.returns
-returns c = let a = c.before.before.before.args in ap (λ (s : Bool). eqb a.list0.poc a.list1.poc && s) c.is_same.ensures
+returns c = let a = c.args in ap (λ (s : Bool). eqb a.list0.poc a.list1.poc && s) c.is_same.ensures

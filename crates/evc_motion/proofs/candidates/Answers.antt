@@ -16,6 +16,9 @@ use Rattle.evc_motion.specs.Candidates.{neighbour, candidates}
 use Rattle.evc_motion.specs.declared.EvcCandidates.{EvcCandidates}
 use Rattle.evc_motion.proofs.Reach.{map_reaches, col_reaches, left_before, up_before, up_right_before, same_neighbour}
 use Rattle.evc_motion.proofs.candidates.Goals as goal
+use Rattle.evc_motion.proofs.candidates.Lts as place
+use Rattle.evc_motion.proofs.candidates.Reads.{Pre, Post}
+use Rattle.evc_motion.proofs.candidates.Tie.{the-claims as claims}
 
 module _ (b : EvcBlock) (lidx avail : ℕ) (map : List ℤ) where
   left_is : (flagged : Bool) (first : ℕ) (mv : EvcMv) → flagged ≡ is_bit 1 avail → first ≡ scup b → mv ≡ neighbour map lidx flagged (first - 1) → mv ≡ neighbour map lidx (is_bit 1 avail) (scup b - 1)
@@ -40,48 +43,37 @@ kept : (has : Bool) (mv old : EvcMv) → has ≡ false → old ≡ cond has mv o
 kept has mv old f = rw f
 
 -- the block's first unit lies in the picture
-inside : (k : goal.After-unit_at-scup) → let b = k.before.args.b in k.unit_at-scup.result.0 < units_of b.pic_w b.pic_h
-inside k = let p = k.before.requires.allowed in rw k.unit_at-scup.ensures (scup_below k.before.args.b p.0 p.1)
+inside : (k : goal.After-unit_at-scup) → let b = k.args.b in k.unit_at-scup.result.0 < units_of b.pic_w b.pic_h
+inside k = let p = k.requires.allowed in rw k.unit_at-scup.ensures (scup_below k.args.b p.0 p.1)
 
-reaches : (k : goal.After-unit_at-scup) → mv_len * k.unit_at-scup.result.0 + mv_len ≤ length k.before.args.map_mv.now
-reaches k = map_reaches k.before.args.b _ _ _ k.before.requires.lidx_bound.1 _ (inside k)
+reaches : (k : goal.After-unit_at-scup) → mv_len * k.unit_at-scup.result.0 + mv_len ≤ length k.args.map_mv.now
+reaches k = map_reaches k.args.b _ _ _ k.requires.lidx_bound.1 _ (inside k)
 
 pub neighbour_mv-left-requires : goal.neighbour_mv-left-requires
 neighbour_mv-left-requires c =
-    let k = c.before.before.before in
-    (k.before.requires.lidx_bound.0, reaches k, λ t. rw k.unit_at-scup.ensures (left_before _ _ k.before.requires.allowed.0 k.before.requires.allowed.1 k.before.requires.lidx_bound.2 (sym c.GET_AVAIL_FLAG.ensures ∙ t)))
+    (c.requires.lidx_bound.0, reaches c.before.before.before, λ t. rw c.unit_at-scup.ensures (left_before _ _ c.requires.allowed.0 c.requires.allowed.1 c.requires.lidx_bound.2 (sym c.GET_AVAIL_FLAG.ensures ∙ t)))
 
 pub neighbour_mv-up-requires : goal.neighbour_mv-up-requires
-neighbour_mv-up-requires c =
-    let w = c.before.before.before.before in
-    let k = w.before in (
-      k.before.requires.lidx_bound.0,
-      reaches k,
-      λ t. rw (k.unit_at-scup.ensures, w.scu-w_scu.ensures) (up_before _ _ k.before.requires.allowed.0 k.before.requires.allowed.1 k.before.requires.lidx_bound.2 (sym c.GET_AVAIL_FLAG-2.ensures ∙ t)),
-    )
+neighbour_mv-up-requires c = (
+  c.requires.lidx_bound.0,
+  reaches c.before.before.before.before.before,
+  λ t. rw (c.unit_at-scup.ensures, c.scu-w_scu.ensures) (up_before _ _ c.requires.allowed.0 c.requires.allowed.1 c.requires.lidx_bound.2 (sym c.GET_AVAIL_FLAG-2.ensures ∙ t)),
+)
 
 pub neighbour_mv-up_right-requires : goal.neighbour_mv-up_right-requires
-neighbour_mv-up_right-requires c =
-    let g = c.before.before in
-    let s = g.before.before.before.before.before in
-    let w = s.before in
-    let k = w.before in (
-      k.before.requires.lidx_bound.0,
-      reaches k,
-      λ t. let l = up_right_before _ _ k.before.requires.allowed.0 k.before.requires.allowed.1 k.before.requires.lidx_bound.2 (sym g.GET_AVAIL_FLAG-3.ensures ∙ t) in
-          omega (arith, k.unit_at-scup.ensures, w.scu-w_scu.ensures),
-    )
-
-abbrev first : goal.After-neighbour_mv-up_right → goal.After-unit_at-scup
-first r = r.before.before.before.before.before.before.before.before.before.before
+neighbour_mv-up_right-requires c = (
+  c.requires.lidx_bound.0,
+  reaches c.before.before.before.before.before.before.before.before.before,
+  λ t. let l = up_right_before _ _ c.requires.allowed.0 c.requires.allowed.1 c.requires.lidx_bound.2 (sym c.GET_AVAIL_FLAG-3.ensures ∙ t) in
+      omega (arith, c.unit_at-scup.ensures, c.scu-w_scu.ensures),
+)
 
 pub mv_at-cand-requires : goal.mv_at-cand-requires
 mv_at-cand-requires c =
-    let k = first c.before.before in
-    (omega arith, col_reaches k.before.args.b _ _ _ k.before.requires.lidx_bound.1 _ (inside k) c.if-has_col.true)
+    (omega arith, col_reaches c.args.b _ _ _ c.requires.lidx_bound.1 _ (inside c.before.before.before.before.before.before.before.before.before.before.before.before) c.if-has_col.true)
 
 -- the three neighbours, with any fourth that is the collocated one
-with_fourth : (r : goal.After-neighbour_mv-up_right) (mv : EvcMv) → let a = (first r).before.args in mv ≡ cond a.has-col (mv_at a.col-mv.now (scup a.b) 0) a.old.collocated → record { left = r.before.before.before.before.before.before.neighbour_mv-left.result; up = r.before.before.before.before.neighbour_mv-up.result; up_right = r.neighbour_mv-up_right.result; collocated = mv; refi = pos 0 ∷ pos 0 ∷ pos 0 ∷ pos 0 ∷ [] } ≡ candidates a.b a.lidx a.avail a.map-mv.now a.has-col a.col-mv.now a.old
+with_fourth : (r : place.After-neighbour_mv3 claims Pre Post) (mv : EvcMv) → let a = (first r).before.args in mv ≡ cond a.has-col (mv_at a.col-mv.now (scup a.b) 0) a.old.collocated → record { left = r.before.before.before.before.before.before.neighbour_mv-left.result; up = r.before.before.before.before.neighbour_mv-up.result; up_right = r.neighbour_mv-up_right.result; collocated = mv; refi = pos 0 ∷ pos 0 ∷ pos 0 ∷ pos 0 ∷ [] } ≡ candidates a.b a.lidx a.avail a.map-mv.now a.has-col a.col-mv.now a.old
 with_fourth r mv q =
     let g = r.before.before.before in
     let u = g.before in
@@ -99,10 +91,7 @@ with_fourth r mv q =
 
 pub returns-then-has_col : goal.returns-then-has_col
 returns-then-has_col c =
-    let t = c.before in
-    let r = t.before.before in
-    let k = first r in
-    with_fourth r _ (from_map _ k.before.args.col_mv.now _ _ _ k.before.args.old.collocated t.if-has_col.true k.unit_at-scup.ensures c.mv_at-cand.ensures)
+    with_fourth c.before.before.before _ (from_map _ c.args.col_mv.now _ _ _ c.args.old.collocated c.if-has_col.true c.unit_at-scup.ensures c.mv_at-cand.ensures)
 
 pub returns-else-has_col : goal.returns-else-has_col
 returns-else-has_col c = with_fourth c.before.before _ (kept _ _ _ c.if-has_col.false)

@@ -28,13 +28,8 @@ module _ (b : EvcBlock) (avail : ℕ) (right : Bool) (e : right ≡ not (eqb (b.
 
 pub returns-then-b-right : goal.returns-then-b-right
 returns-then-b-right c =
-    let r = c.before.before.before in
-    inner r.before.args.b r.before.args.avail _ r.Has-right.ensures c.if-b-right.true
+    inner c.args.b c.args.avail _ c.Has-right.ensures c.if-b-right.true
 
 pub returns-else-b-right : goal.returns-else-b-right
 returns-else-b-right c =
-    let g = c.before in
-    let f = g.before.before in
-    let e = f.before.before in
-    let r = e.before.before.before.before in
-    at_edge r.before.args.b r.before.args.avail _ r.Has-right.ensures _ _ _ e.GET_AVAIL_FLAG.ensures f.GET_AVAIL_FLAG-else-b-right.ensures g.GET_AVAIL_FLAG-else-b-right-2.ensures
+    at_edge c.args.b c.args.avail _ c.Has-right.ensures _ _ _ c.GET_AVAIL_FLAG.ensures c.GET_AVAIL_FLAG-else-b-right.ensures c.GET_AVAIL_FLAG-else-b-right-2.ensures

@@ -35,18 +35,18 @@ module _ (b : EvcBlock) (lidx avail : ℕ) (map : List ℤ) (has : Bool) (col : 
 
 pub returns-then-code-ne0 : goal.returns-then-code-ne0
 returns-then-code-ne0 c =
-    let a = c.before.before.args in
-    refusal a.block a.lidx a.avail a.map-mv.now a.has-col a.col-mv.now a.old _ c.before.motion_code-code.ensures c.if-code-ne0.true
+    let a = c.args in
+    refusal a.block a.lidx a.avail a.map-mv.now a.has-col a.col-mv.now a.old _ c.motion_code-code.ensures c.if-code-ne0.true
 
-accepted_call : (c : goal.Else-code-ne0) → let a = c.before.before.args in first_of (motion_checks a.block a.lidx a.avail (length a.map-mv.now) a.has-col (length a.col-mv.now)) ≡ 0
-accepted_call c = sym c.before.motion_code-code.ensures ∙ c.if-code-ne0.false
+accepted_call : (c : goal.Else-code-ne0) → let a = c.args in first_of (motion_checks a.block a.lidx a.avail (length a.map-mv.now) a.has-col (length a.col-mv.now)) ≡ 0
+accepted_call c = sym c.motion_code-code.ensures ∙ c.if-code-ne0.false
 
 pub candidates-requires : goal.candidates-requires
 candidates-requires c =
-    let a = c.before.before.args in
+    let a = c.args in
     passes a.block a.lidx a.avail a.map-mv.now a.has-col a.col-mv.now (accepted_call c)
 
 pub returns : goal.returns
 returns c =
-    let a = c.before.before.before.args in
+    let a = c.args in
     done a.block a.lidx a.avail a.map-mv.now a.has-col a.col-mv.now a.old _ (accepted_call c.before) c.candidates.ensures

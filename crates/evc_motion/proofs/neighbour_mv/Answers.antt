@@ -3,13 +3,13 @@ use native.Mathlib.Omega.{arith}
 use Rattle.evc_motion.proofs.neighbour_mv.Goals as goal
 
 pub overflow_sub-scup : goal.overflow_sub-scup
-overflow_sub-scup c = let t = c.before.before in t.before.requires.2 t.if-flagged.true
+overflow_sub-scup c = c.requires.2 c.if-flagged.true
 
 pub mv_at-requires : goal.mv_at-requires
-mv_at-requires c = let p = c.before.before.before.requires in (omega arith, omega (arith, overflow_sub-scup c))
+mv_at-requires c = let p = c.requires in (omega arith, omega (arith, overflow_sub-scup c))
 
 pub returns-then-flagged : goal.returns-then-flagged
-returns-then-flagged c = rw c.before.before.before.if-flagged.true c.mv_at.ensures
+returns-then-flagged c = rw c.if-flagged.true c.mv_at.ensures
 
 pub returns-else-flagged : goal.returns-else-flagged
 returns-else-flagged c = rw c.if-flagged.false

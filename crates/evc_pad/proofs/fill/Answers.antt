@@ -11,10 +11,10 @@ unfolding with_row
 loop-x-init c = (omega arith, refl, refl)
 
 pub loop-x-preserved : goal.loop-x-preserved
-loop-x-preserved c = let i = c.before.loop-x.invariant in (omega arith, simp length-set i.1, row_step _ _ _ _ _ _ i.2 refl)
+loop-x-preserved c = let i = c.loop-x.invariant in (omega arith, simp length-set i.1, row_step _ _ _ _ _ _ i.2 refl)
 
 pub returns : goal.returns
-returns c = let i = c.before.loop-x.invariant in row_done _ _ _ _ _ _ i.2 i.0 c.loop-x-test.false
+returns c = let i = c.loop-x.invariant in row_done _ _ _ _ _ _ i.2 i.0 c.loop-x-test.false
 
 pub overflow_add-plane : goal.overflow_add-plane
 overflow_add-plane c = omega arith
@@ -32,4 +32,4 @@ pub loop-x-smaller : goal.loop-x-smaller
 loop-x-smaller c = omega arith
 
 pub shape_of-plane : goal.shape_of-plane
-shape_of-plane c = c.before.loop-x.invariant.1
+shape_of-plane c = c.loop-x.invariant.1

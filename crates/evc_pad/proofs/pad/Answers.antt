@@ -7,21 +7,24 @@ use Rattle.evc_plane.specs.declared.PlaneType.{PlaneType}
 use Rattle.evc_pad.specs.Padding.{pad_code, pad_after}
 use Rattle.evc_pad.proofs.Laws.{accepts, after}
 use Rattle.evc_pad.proofs.pad.Goals as goal
+use Rattle.evc_pad.proofs.pad.Lts as place
+use Rattle.evc_pad.proofs.pad.Reads.{Pre, Post}
+use Rattle.evc_pad.proofs.pad.Tie.{the-claims as claims}
 
 module _ (t : PlaneType) (W H : ℕ) (s : List ℕ) where
   untouched : (code : ℕ) → code ≡ pad_code t W H s → (code ≡ 0 → ⊥) → s ≡ pad_after t W H s
   unfolding pad_after
   untouched code e n = rw (sym e, ne_eqb code 0 n)
 
-accepted : (c : goal.Else-code-ne0) → pad_code c.before.before.before.before.args.t c.before.before.before.before.args.pic_w c.before.before.before.before.args.pic_h c.before.before.before.before.args.plane.now ≡ 0
-accepted c = sym c.before.pad_code-code.ensures ∙ c.if-code-ne0.false
+accepted : (c : place.Else1 claims Pre Post) → pad_code c.args.t c.args.pic_w c.args.pic_h c.args.plane.now ≡ 0
+accepted c = sym c.pad_code-code.ensures ∙ c.if-code-ne0.false
 
 pub returns-then-code-ne0 : goal.returns-then-code-ne0
-returns-then-code-ne0 c = record { value = c.before.pad_code-code.ensures; plane_after = untouched _ _ _ _ _ c.before.pad_code-code.ensures c.if-code-ne0.true }
+returns-then-code-ne0 c = record { value = c.pad_code-code.ensures; plane_after = untouched _ _ _ _ _ c.pad_code-code.ensures c.if-code-ne0.true }
 
 pub pad_plane-requires : goal.pad_plane-requires
 pad_plane-requires c = let a = accepts _ _ _ _ (accepted c.before) in record { pic_h_value = a.0; pic_h_in_bounds = a.1 }
 
 pub returns : goal.returns
 returns c =
-    let a = accepted c.before.before.before.before in record { value = sym a; plane_after = c.before.before.pad_plane.ensures ∙ sym (after _ _ _ _ a) }
+    let a = accepted c.before.before.before.before.before in record { value = sym a; plane_after = c.pad_plane.ensures ∙ sym (after _ _ _ _ a) }

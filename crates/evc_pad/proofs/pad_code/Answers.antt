@@ -15,6 +15,9 @@ use Rattle.evc_samples.specs.Samples.{exceeds}
 use Rattle.evc_pad.specs.Padding.{pad_code}
 use Rattle.evc_plane.proofs.Sizes.{Room, room}
 use Rattle.evc_pad.proofs.pad_code.Goals as goal
+use Rattle.evc_pad.proofs.pad_code.Lts as place
+use Rattle.evc_pad.proofs.pad_code.Reads.{Pre, Post}
+use Rattle.evc_pad.proofs.pad_code.Tie.{the-claims as claims}
 
 module _ (t : PlaneType) (W H : ℕ) (s : List ℕ) where
   code_1 : bad_picture W H ≡ true → 1 ≡ pad_code t W H s
@@ -40,47 +43,39 @@ module _ (t : PlaneType) (W H : ℕ) (s : List ℕ) where
       code_0 small = sym (passed _ _ _ good ∙ passed _ _ _ (le-ltb (length s) (plane_len t W H) long) ∙ passed _ _ _ (examined ∙ small) ∙ none)
 
 pub returns-then-bad_picture : goal.returns-then-bad_picture
-returns-then-bad_picture c = code_1 _ _ _ _ (sym c.before.bad_picture.ensures ∙ c.if-bad_picture.true)
+returns-then-bad_picture c = code_1 _ _ _ _ (sym c.bad_picture.ensures ∙ c.if-bad_picture.true)
 
-picture_good : (c : goal.Else-bad_picture) → bad_picture c.before.before.before.args.pic_w c.before.before.before.args.pic_h ≡ false
-picture_good c = sym c.before.bad_picture.ensures ∙ c.if-bad_picture.false
+picture_good : (c : place.Else1 claims Pre Post) → bad_picture c.args.pic_w c.args.pic_h ≡ false
+picture_good c = sym c.bad_picture.ensures ∙ c.if-bad_picture.false
 
 pub returns-then-plane-plane_len : goal.returns-then-plane-plane_len
-returns-then-plane-plane_len c = code_4 _ _ _ _ (picture_good c.before.before) (let e = c.before.plane_len.ensures in omega arith)
+returns-then-plane-plane_len c = code_4 _ _ _ _ (picture_good c.before.before.before) (let e = c.plane_len.ensures in omega arith)
 
-abbrev start : goal.Else-plane-plane_len → goal.Start
-start c = c.before.before.before.before.before
-
-long : (c : goal.Else-plane-plane_len) → plane_len (start c).args.t (start c).args.pic_w (start c).args.pic_h ≤ length (start c).args.plane.now
-long c = let e = c.before.plane_len.ensures in omega arith
-
-abbrev configured : goal.After-exceeds → goal.After-plane_config-c
-configured c = c.before.before.before
+long : (c : place.Else2 claims Pre Post) → plane_len c.args.t c.args.pic_w c.args.pic_h ≤ length c.args.plane.now
+long c = let e = c.plane_len.ensures in omega arith
 
 pub returns-then-exceeds : goal.returns-then-exceeds
 returns-then-exceeds c =
-    let r = configured c.before in
-    code_6 _ _ _ _ (picture_good r.before.before.before) (long r.before) _ r.plane_config-c.ensures _ c.before.exceeds.ensures c.if-exceeds.true
+    code_6 _ _ _ _ (picture_good c.before.before.before.before.before.before.before.before) (long c.before.before.before.before.before.before) _ c.plane_config-c.ensures _ c.exceeds.ensures c.if-exceeds.true
 
 pub returns : goal.returns
 returns c =
-    let r = configured c.before in
-    code_0 _ _ _ _ (picture_good r.before.before.before) (long r.before) _ r.plane_config-c.ensures _ c.before.exceeds.ensures c.if-exceeds.false
+    code_0 _ _ _ _ (picture_good c.before.before.before.before.before.before.before.before) (long c.before.before.before.before.before.before) _ c.plane_config-c.ensures _ c.exceeds.ensures c.if-exceeds.false
 
-known : (c : goal.After-plane_config-c) → Room c.plane_config-c.result (length (start c.before).args.plane.now)
+known : (c : place.After-plane_config claims Pre Post) → Room c.plane_config-c.result (length c.args.plane.now)
 known c = room _ _ _ _ _ c.plane_config-c.ensures (picture_good c.before.before.before) (long c.before)
 
 pub plane_len-requires : goal.plane_len-requires
-plane_len-requires c = picture_good c
+plane_len-requires c = picture_good c.before
 
 pub plane_config-c-requires : goal.plane_config-c-requires
-plane_config-c-requires c = picture_good c.before.before
+plane_config-c-requires c = picture_good c.before.before.before
 
 pub overflow_mul-c : goal.overflow_mul-c
-overflow_mul-c c = let z = known c.before in omega arith
+overflow_mul-c c = let z = known c.before.before in omega arith
 
 pub overflow_add-c : goal.overflow_add-c
-overflow_add-c c = let z = known c.before.before in omega arith
+overflow_add-c c = let z = known c.before.before.before in omega arith
 
 pub exceeds-requires : goal.exceeds-requires
-exceeds-requires c = let z = known c.before.before in omega arith
+exceeds-requires c = let z = known c.before.before.before in omega arith

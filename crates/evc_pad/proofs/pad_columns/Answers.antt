@@ -26,16 +26,16 @@ turn l l₀ k base stride x n from y p q lf lx o =
     block_step l l₀ k (base + x) stride n y (column l₀ base stride from) p
     (q ∙ ap (λ (i : ℕ). with_row l i n (λ _. get_or l (base + y * stride + from) 0)) e ∙ ap (λ (v : ℕ). with_row l (base + x + y * stride) n (λ _. v)) kept)
 
-room : (c : goal.In-loop-y) → c.before.loop-y.y * c.before.before.before.args.stride + c.before.before.before.args.stride ≤ c.before.before.before.args.h * c.before.before.before.args.stride
+room : (c : goal.In-loop-y) → c.loop-y.y * c.args.stride + c.args.stride ≤ c.args.h * c.args.stride
 room c = row_fits _ c.loop-y-test.true
 
 pub loop-y-preserved : goal.loop-y-preserved
 loop-y-preserved c =
-    let i = c.before.before.before.before.before.before.loop-y.invariant in
-    let f = c.before.before.fill in (omega arith, f.auto.0 ∙ i.1, turn _ _ _ _ _ _ _ _ _ i.2 f.ensures c.before.before.before.before.before.before.before.before.requires.stride_in_bounds.2 c.before.before.before.before.before.before.before.before.requires.stride_in_bounds.1 c.before.before.before.before.before.before.before.before.requires.fact)
+    let i = c.loop-y.invariant in
+    let f = c.fill in (omega arith, f.auto.0 ∙ i.1, turn _ _ _ _ _ _ _ _ _ i.2 f.ensures c.requires.stride_in_bounds.2 c.requires.stride_in_bounds.1 c.requires.fact)
 
 pub returns : goal.returns
-returns c = let i = c.before.loop-y.invariant in block_done _ _ _ _ _ _ _ _ i.2 i.0 c.loop-y-test.false
+returns c = let i = c.loop-y.invariant in block_done _ _ _ _ _ _ _ _ i.2 i.0 c.loop-y-test.false
 
 pub overflow_mul-row : goal.overflow_mul-row
 overflow_mul-row c = let r = room c in omega arith
@@ -50,7 +50,7 @@ pub offset_bounds-plane-row : goal.offset_bounds-plane-row
 offset_bounds-plane-row c = let r = room c in omega arith
 
 pub bounds-plane-row : goal.bounds-plane-row
-bounds-plane-row c = let r = room c.before in omega arith
+bounds-plane-row c = let r = room c.before.before in omega arith
 
 pub overflow_add-row-in-loop-y : goal.overflow_add-row-in-loop-y
 overflow_add-row-in-loop-y c = let r = room c.before.before in omega arith
@@ -65,4 +65,4 @@ pub loop-y-smaller : goal.loop-y-smaller
 loop-y-smaller c = omega arith
 
 pub shape_of-plane : goal.shape_of-plane
-shape_of-plane c = c.before.loop-y.invariant.1
+shape_of-plane c = c.loop-y.invariant.1

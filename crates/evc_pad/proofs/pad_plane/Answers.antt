@@ -15,6 +15,9 @@ use Rattle.evc_pad.specs.Padding.{padded}
 use Rattle.evc_plane.proofs.Sizes.{Room, room}
 use Rattle.evc_pad.proofs.Padding.{filled_left, filled_right, copied_up, copied_down, held, steps_pad}
 use Rattle.evc_pad.proofs.pad_plane.Goals as goal
+use Rattle.evc_pad.proofs.pad_plane.Lts as place
+use Rattle.evc_pad.proofs.pad_plane.Reads.{Pre, Post}
+use Rattle.evc_pad.proofs.pad_plane.Tie.{the-claims as claims}
 
 module _ (t : PlaneType) (W H : ℕ) (c : PlaneConfig) (e : c ≡ config_of t W H) where
   abbrev step : (ℕ → ℕ → ℕ → ℕ → ℕ → List ℕ → List ℕ) → List ℕ → List ℕ
@@ -28,72 +31,57 @@ module _ (t : PlaneType) (W H : ℕ) (c : PlaneConfig) (e : c ≡ config_of t W 
       ∙ steps_pad c.yorigin c.xorigin c.width c.height c.stride s (omega arith) (omega arith) (omega arith) (omega arith) (omega arith)
       ∙ ap (λ (z : PlaneConfig). with_block s 0 z.stride z.stride (z.yorigin + z.height + z.yorigin) (held z.yorigin z.xorigin z.width z.height z.stride s)) e
 
-abbrev start : goal.After-plane_config-c → goal.Start
-start c = c.before.before
+known : (c : place.After-plane_config claims Pre Post) → Room c.plane_config-c.result (length c.args.plane.now)
+known c = room _ _ _ _ _ c.plane_config-c.ensures c.requires.pic_h_value c.requires.pic_h_in_bounds
 
-known : (c : goal.After-plane_config-c) → Room c.plane_config-c.result (length (start c).args.plane.now)
-known c = room _ _ _ _ _ c.plane_config-c.ensures (start c).requires.pic_h_value (start c).requires.pic_h_in_bounds
+length₁ : (c : goal.After-pad_columns-arg-2-1) → length c.pad_columns.new.0 ≡ length c.args.plane.now
+length₁ c = c.pad_columns.auto.0
 
--- each step keeps the length
-abbrev first : goal.After-pad_columns-arg-2-1 → goal.After-plane_config-c
-first c = c.before.before.before.before.before.before.before
+length₂ : (c : goal.After-pad_rows-arg-1) → length c.pad_columns-2.new.0 ≡ length c.args.plane.now
+length₂ c = c.pad_columns-2.auto.0 ∙ length₁ c.before.before.before.before
 
-length₁ : (c : goal.After-pad_columns-arg-2-1) → length c.before.before.before.pad_columns.new.0 ≡ length (start (first c)).args.plane.now
-length₁ c = c.before.before.before.pad_columns.auto.0
-
-abbrev second : goal.After-pad_rows-arg-1 → goal.After-pad_columns-arg-2-1
-second c = c.before.before.before.before
-
-length₂ : (c : goal.After-pad_rows-arg-1) → length c.before.before.before.pad_columns-2.new.0 ≡ length (start (first (second c))).args.plane.now
-length₂ c = c.before.before.before.pad_columns-2.auto.0 ∙ length₁ (second c)
-
-abbrev third : goal.After-pad_rows-arg-2-1 → goal.After-pad_rows-arg-1
-third c = c.before.before.before.before
-
-length₃ : (c : goal.After-pad_rows-arg-2-1) → length c.before.before.before.pad_rows.new.0 ≡ length (start (first (second (third c)))).args.plane.now
-length₃ c = c.before.before.before.pad_rows.auto.0 ∙ length₂ (third c)
+length₃ : (c : goal.After-pad_rows-arg-2-1) → length c.pad_rows.new.0 ≡ length c.args.plane.now
+length₃ c = c.pad_rows.auto.0 ∙ length₂ c.before.before.before.before
 
 pub pad_columns-requires : goal.pad_columns-requires
 pad_columns-requires c = let z = known c.before.before.before in record { stride_in_bounds = (omega arith, omega arith, omega arith); fact = inr (omega arith) }
 
 pub pad_columns-requires-2 : goal.pad_columns-requires-2
 pad_columns-requires-2 c =
-    let z = known (first c) in
+    let z = known c.before.before.before.before.before.before.before in
     let n = length₁ c in record { stride_in_bounds = (omega arith, omega arith, omega arith); fact = inl (omega arith) }
 
 pub pad_rows-requires : goal.pad_rows-requires
 pad_rows-requires c =
-    let z = known (first (second c)) in
+    let z = known c.before.before.before.before.before.before.before.before.before.before.before in
     let n = length₂ c in record { stride_in_bounds = (omega arith, omega arith); fact = inr (omega arith) }
 
 pub pad_rows-requires-2 : goal.pad_rows-requires-2
 pad_rows-requires-2 c =
-    let z = known (first (second (third c))) in
+    let z = known c.before.before.before.before.before.before.before.before.before.before.before.before.before.before.before in
     let n = length₃ c in record { stride_in_bounds = (omega arith, omega arith); fact = inl (omega arith) }
 
 pub returns : goal.returns
 returns c =
-    let d = c.before.before.before in
-    let r = first (second (third d)) in
-    by_steps _ _ _ r.plane_config-c.result r.plane_config-c.ensures _ _ _ _ _ (start r).requires.pic_h_value (start r).requires.pic_h_in_bounds (second (third d)).before.before.before.pad_columns.ensures (third d).before.before.before.pad_columns-2.ensures d.before.before.before.pad_rows.ensures c.before.before.pad_rows-2.ensures
+    by_steps _ _ _ c.plane_config-c.result c.plane_config-c.ensures _ _ _ _ _ c.requires.pic_h_value c.requires.pic_h_in_bounds c.pad_columns.ensures c.pad_columns-2.ensures c.pad_rows.ensures c.pad_rows-2.ensures
 
 pub overflow_add-right : goal.overflow_add-right
-overflow_add-right c = let z = known c.before in omega arith
+overflow_add-right c = let z = known c.before.before in omega arith
 
 pub overflow_mul-first : goal.overflow_mul-first
-overflow_mul-first c = let z = known c.before in omega arith
+overflow_mul-first c = let z = known c.before.before in omega arith
 
 pub overflow_mul-bottom : goal.overflow_mul-bottom
-overflow_mul-bottom c = let z = known c.before.before in omega arith
+overflow_mul-bottom c = let z = known c.before.before.before in omega arith
 
 pub overflow_add-bottom : goal.overflow_add-bottom
-overflow_add-bottom c = let z = known c.before.before in omega arith
+overflow_add-bottom c = let z = known c.before.before.before in omega arith
 
 pub overflow_sub-stride : goal.overflow_sub-stride
-overflow_sub-stride c = let z = known (first c) in omega arith
+overflow_sub-stride c = let z = known c.before.before.before.before.before.before.before in omega arith
 
 pub overflow_sub-right : goal.overflow_sub-right
-overflow_sub-right c = let z = known (first c) in omega arith
+overflow_sub-right c = let z = known c.before.before.before.before.before.before.before in omega arith
 
 pub overflow_sub-bottom : goal.overflow_sub-bottom
-overflow_sub-bottom c = let z = known (first (second (third c))) in omega arith
+overflow_sub-bottom c = let z = known c.before.before.before.before.before.before.before.before.before.before.before.before.before.before.before in omega arith

@@ -9,6 +9,9 @@ use lib.ListN.{get_or}
 use Rattle.evc_int.specs.Lists.{with_row, with_block}
 use Rattle.evc_int.proofs.Lists.{row_fits, with_row-ext, with_block-past, with_block-before, block_step, block_done}
 use Rattle.evc_pad.proofs.pad_rows.Goals as goal
+use Rattle.evc_pad.proofs.pad_rows.Lts as place
+use Rattle.evc_pad.proofs.pad_rows.Reads.{Pre, Post}
+use Rattle.evc_pad.proofs.pad_rows.Tie.{the-claims as claims}
 
 abbrev row : List ℕ → ℕ → ℕ → ℕ → ℕ
 row l from y x = get_or l (from + x) 0
@@ -31,24 +34,24 @@ turn l l₀ k stride from to h y p q lt o =
         with_block-past 0 l₀ to stride stride y (row l₀ from) (from + x) (le_refl stride) (omega (arith, row_fits stride lt)))
         o
 
-room : (c : goal.In-loop-y) → c.before.loop-y.y * c.before.before.before.args.stride + c.before.before.before.args.stride ≤ c.before.before.before.args.h * c.before.before.before.args.stride
+room : (c : place.In-loop claims Pre Post goal.the-invariant-loop-y goal.the-decreases-loop-y) → c.loop-y.y * c.args.stride + c.args.stride ≤ c.args.h * c.args.stride
 room c = row_fits _ c.loop-y-test.true
 
 pub copy_row-requires : goal.copy_row-requires
 copy_row-requires c =
-    let r = room c.before in record { n_in_bounds = (omega arith, omega arith); fact = ⊎_elim (λ b. inl (omega arith)) (λ b. inr (omega arith)) c.before.before.before.before.requires.fact }
+    let r = room c.before in record { n_in_bounds = (omega arith, omega arith); fact = ⊎_elim (λ b. inl (omega arith)) (λ b. inr (omega arith)) c.requires.fact }
 
 pub loop-y-preserved : goal.loop-y-preserved
 loop-y-preserved c =
-    let i = c.before.before.before.before.before.loop-y.invariant in
-    let f = c.before.before.copy_row in (
+    let i = c.loop-y.invariant in
+    let f = c.copy_row in (
       omega arith,
       f.auto.0 ∙ i.1,
-      turn _ _ _ _ _ _ _ _ i.2 f.ensures c.before.before.before.before.loop-y-test.true c.before.before.before.before.before.before.before.requires.fact,
+      turn _ _ _ _ _ _ _ _ i.2 f.ensures c.loop-y-test.true c.requires.fact,
     )
 
 pub returns : goal.returns
-returns c = let i = c.before.loop-y.invariant in block_done _ _ _ _ _ _ _ _ i.2 i.0 c.loop-y-test.false
+returns c = let i = c.loop-y.invariant in block_done _ _ _ _ _ _ _ _ i.2 i.0 c.loop-y-test.false
 
 pub overflow_mul-y : goal.overflow_mul-y
 overflow_mul-y c = let r = room c.before in omega arith
@@ -63,4 +66,4 @@ pub loop-y-smaller : goal.loop-y-smaller
 loop-y-smaller c = omega arith
 
 pub shape_of-plane : goal.shape_of-plane
-shape_of-plane c = c.before.loop-y.invariant.1
+shape_of-plane c = c.loop-y.invariant.1

@@ -7,7 +7,6 @@ use Rattle.evc_paths.proofs.copy4.Goals as goal
 
 pub returns : goal.returns
 returns c =
-    let p = c.before.before in
-    let a = p.before.before.before.before.before.before.before.before.args in
+    let a = c.args in
     let z : a.at ≡ a.at + 0 = omega arith in
-    p.put4.ensures (λ (x : ℕ). get_or a.s.now (a.at + x) 0) (ap (λ (i : ℕ). get_or a.s.now i 0) z) refl refl refl
+    c.put4.ensures (λ (x : ℕ). get_or a.s.now (a.at + x) 0) (ap (λ (i : ℕ). get_or a.s.now i 0) z) refl refl refl

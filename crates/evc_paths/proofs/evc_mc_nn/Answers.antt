@@ -6,18 +6,15 @@ use Rattle.evc_paths.proofs.evc_mc_nn.Goals as goal
 
 pub groups-requires : goal.groups-requires
 groups-requires c =
-    let s = c.before.before.before.before.before in
-    let p = s.requires.w_value in
-    let l = c.before.before.if-h-le8.true in record { t_in_bounds = s.requires.t_in_bounds; w_value = (p.0, p.1, p.2, omega arith, p.4, p.5, low_fits s.args.t s.args.h l); within = s.requires.within }
+    let p = c.requires.w_value in
+    let l = c.if-h-le8.true in record { t_in_bounds = c.requires.t_in_bounds; w_value = (p.0, p.1, p.2, omega arith, p.4, p.5, low_fits c.args.t c.args.h l); within = c.requires.within }
 
 pub groups-requires-in-Y : goal.groups-requires-in-Y
 groups-requires-in-Y c =
-    let s = c.before.before.before.before.before.before.before in
-    let p = s.requires.w_value in
-    let f = stage_fits s.args.t Y s.args.h c.before.before.enum_told-1.given.1 p.3 in record { t_in_bounds = s.requires.t_in_bounds; w_value = (p.0, p.1, p.2, f.0, p.4, p.5, f.1); within = s.requires.within }
+    let p = c.requires.w_value in
+    let f = stage_fits c.args.t Y c.args.h c.enum_told-1.given.1 p.3 in record { t_in_bounds = c.requires.t_in_bounds; w_value = (p.0, p.1, p.2, f.0, p.4, p.5, f.1); within = c.requires.within }
 
 pub groups-requires-in-UV : goal.groups-requires-in-UV
 groups-requires-in-UV c =
-    let s = c.before.before.before.before.before.before.before in
-    let p = s.requires.w_value in
-    let f = stage_fits s.args.t UV s.args.h c.before.before.enum_told-in-UV-1.given.1 p.3 in record { t_in_bounds = s.requires.t_in_bounds; w_value = (p.0, p.1, p.2, f.0, p.4, p.5, f.1); within = s.requires.within }
+    let p = c.requires.w_value in
+    let f = stage_fits c.args.t UV c.args.h c.enum_told-in-UV-1.given.1 p.3 in record { t_in_bounds = c.requires.t_in_bounds; w_value = (p.0, p.1, p.2, f.0, p.4, p.5, f.1); within = c.requires.within }

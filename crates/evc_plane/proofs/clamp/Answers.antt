@@ -12,6 +12,8 @@ use Rattle.evc_int.proofs.Clipping.{clip3_low, clip3_high, clip3_kept}
 use Rattle.evc_int.proofs.Machine.{arg, uns, is_rd, fit, to_unsigned}
 use Rattle.evc_plane.specs.Planes.{start_at}
 use Rattle.evc_plane.proofs.clamp.Goals as goal
+use Rattle.evc_plane.proofs.clamp.Lts as place
+use Rattle.evc_plane.proofs.clamp.Reads.{Pre, Post}
 
 -- ---- the three cases, over plain numbers
 module _ (origin size : ℕ) (z : ℤ) where
@@ -45,7 +47,7 @@ origin_fits c = fit (nat c.args.origin) (omega arith)
 size_fits : (c : goal.Start) → SFits w32 (pos c.args.size)
 size_fits c = fit (nat c.args.size) (omega arith)
 
-start_fits : (c : goal.After-struct_told-1) → SFits w32 c.before.before.args.start.0
+start_fits : (c : place.After-struct_told Pre Post) → SFits w32 c.args.start.0
 start_fits c = search rules
 
 pub overflow_sub-origin : goal.overflow_sub-origin
@@ -53,49 +55,38 @@ overflow_sub-origin c = fit (is-- (nat 0) (uns (origin_fits c))) (omega arith)
 
 pub returns-then-start-origin : goal.returns-then-start-origin
 returns-then-start-origin c =
-    let s = c.before.before.before in
-    low _ _ _ (let h = lt_yes (arg (start_fits c.before)) (is_rd (overflow_sub-origin s) (is-- (nat 0) (uns (origin_fits s)))) c.if-start-origin.true in omega arith)
+    low _ _ _ (let h = lt_yes (arg (start_fits c.before)) (is_rd (overflow_sub-origin c) (is-- (nat 0) (uns (origin_fits c.before.before.before)))) c.if-start-origin.true in omega arith)
 
-above : (c : goal.Else-start-origin) → c.before.before.before.args.start.0 ⁻ ≤ c.before.before.before.args.start.0 ⁺ + c.before.before.before.args.origin
+above : (c : place.Else1 Pre Post) → c.args.start.0 ⁻ ≤ c.args.start.0 ⁺ + c.args.origin
 above c =
-    let s = c.before.before.before in
-    let h = lt_no (arg (start_fits c.before)) (is_rd (overflow_sub-origin s) (is-- (nat 0) (uns (origin_fits s)))) c.if-start-origin.false in omega arith
+    let h = lt_no (arg (start_fits c.before)) (is_rd (overflow_sub-origin c) (is-- (nat 0) (uns (origin_fits c.before.before.before)))) c.if-start-origin.false in omega arith
 
 pub returns-then-start-size : goal.returns-then-start-size
 returns-then-start-size c =
-    let e = c.before.before.before in
-    high _ _ _ (above e) (let h = lt_yes (uns (size_fits e.before.before.before)) (arg (start_fits e.before)) c.if-start-size.true in omega arith)
+    high _ _ _ (above c.before.before.before) (let h = lt_yes (uns (size_fits c.before.before.before.before.before.before)) (arg (start_fits c.before.before.before.before)) c.if-start-size.true in omega arith)
 
-below : (c : goal.Else-start-size) → c.before.before.before.before.before.before.args.start.0 ⁺ ≤ c.before.before.before.before.before.before.args.size + c.before.before.before.before.before.before.args.start.0 ⁻
+below : (c : place.Else2 Pre Post) → c.args.start.0 ⁺ ≤ c.args.size + c.args.start.0 ⁻
 below c =
-    let e = c.before.before.before in
-    let h = lt_no (uns (size_fits e.before.before.before)) (arg (start_fits e.before)) c.if-start-size.false in omega arith
+    let h = lt_no (uns (size_fits c.before.before.before.before.before.before)) (arg (start_fits c.before.before.before.before)) c.if-start-size.false in omega arith
 
--- the sum, as it is read
-abbrev else₁ : goal.After-struct_told-3-1 → goal.Else-start-origin
-else₁ c = c.before.before.before.before.before
-
-abbrev entry : goal.After-struct_told-3-1 → goal.Start
-entry c = (else₁ c).before.before.before
-
-sum : (c : goal.After-struct_told-3-1) → Is (to_z w32 (of_z w32 (entry c).args.start.0) +ℤ to_z w32 (entry c).args.origin) ((entry c).args.start.0 ⁺ + (entry c).args.origin) ((entry c).args.start.0 ⁻ + 0)
-sum c = is-+ (arg (start_fits (else₁ c).before)) (uns (origin_fits (entry c)))
+sum : (c : goal.After-struct_told-3-1) → Is (to_z w32 (of_z w32 c.args.start.0) +ℤ to_z w32 c.args.origin) (c.args.start.0 ⁺ + c.args.origin) (c.args.start.0 ⁻ + 0)
+sum c = is-+ (arg (start_fits c.before.before.before.before.before.before)) (uns (origin_fits c.before.before.before.before.before.before.before.before))
 
 pub overflow_add-result-2 : goal.overflow_add-result-2
 overflow_add-result-2 c =
-    let a = above (else₁ c) in
+    let a = above c.before.before.before.before.before in
     let b = below c.before.before in
     fit (sum c) (omega arith)
 
 pub overflow_cast-result-2 : goal.overflow_cast-result-2
 overflow_cast-result-2 c =
-    let a = above (else₁ c) in
+    let a = above c.before.before.before.before.before in
     let b = below c.before.before in
     to_unsigned (is_rd (overflow_add-result-2 c) (sum c)) (omega arith)
 
 pub returns : goal.returns
 returns c =
-    let a = above (else₁ c) in
+    let a = above c.before.before.before.before.before in
     let r = is_rd (overflow_add-result-2 c) (sum c) in
-    let y = to_z w32 (of_z w32 (to_z w32 (of_z w32 (entry c).args.start.0) +ℤ to_z w32 (entry c).args.origin)) in
+    let y = to_z w32 (of_z w32 (to_z w32 (of_z w32 c.args.start.0) +ℤ to_z w32 c.args.origin)) in
     between _ _ _ a (below c.before.before) (nat_abs y) (omega (arith, parts r, abs_of y))

@@ -11,11 +11,11 @@ made : (t : PlaneType) (W H o p w h : ℕ) → o ≡ origin_of t → p ≡ pad_o
 unfolding config_of stride_of rows_of
 made t W H o p w h a b c d = simp (a, b, c, d)
 
-small : (c : goal.After-side-height) → Sizes (config_of c.before.before.before.before.args.t c.before.before.before.before.args.pic_w c.before.before.before.before.args.pic_h)
-small c = sizes _ _ _ c.before.before.before.before.requires
+small : (c : goal.After-side-height) → Sizes (config_of c.args.t c.args.pic_w c.args.pic_h)
+small c = sizes _ _ _ c.requires
 
 pub returns : goal.returns
-returns c = made _ _ _ _ _ _ _ c.before.before.before.xorigin-xorigin.ensures c.before.before.pad_size-pad.ensures c.before.side-width.ensures c.side-height.ensures
+returns c = made _ _ _ _ _ _ _ c.xorigin-xorigin.ensures c.pad_size-pad.ensures c.side-width.ensures c.side-height.ensures
 
 pub overflow_add-result : goal.overflow_add-result
 overflow_add-result c = let z = small c in omega arith

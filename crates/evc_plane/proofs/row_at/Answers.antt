@@ -7,6 +7,6 @@ use Rattle.evc_plane.proofs.row_at.Goals as goal
 
 pub returns : goal.returns
 returns c =
-    let a = c.before.args in
+    let a = c.args in
     let i = a.at + a.row * a.stride in
     take_all (length a.s.now - i) (drop i a.s.now) (simp length-drop (omega arith))

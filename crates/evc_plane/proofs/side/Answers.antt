@@ -5,4 +5,4 @@ use Rattle.evc_plane.specs.Planes.{side_of}
 use Rattle.evc_plane.proofs.side.Goals as goal
 
 pub returns-in-UV : goal.returns-in-UV
-returns-in-UV c = sym (ap (λ (t : PlaneType). side_of t c.before.before.args.n) c.enum_told-in-UV-1.given.1)
+returns-in-UV c = sym (ap (λ (t : PlaneType). side_of t c.args.n) c.enum_told-in-UV-1.given.1)

@@ -12,7 +12,7 @@ use Rattle.evc_plane.proofs.Starts.{start_range}
 use Rattle.evc_plane.proofs.window_start.Goals as goal
 
 sized : (c : goal.After-plane_config-c) → Sizes c.plane_config-c.result
-sized c = sizes_of _ _ _ _ c.plane_config-c.ensures c.before.requires
+sized c = sizes_of _ _ _ _ c.plane_config-c.ensures c.requires
 
 module _ (t : PlaneType) (W H : ℕ) (c : PlaneConfig) (zx zy : ℤ) (x y : ℕ) (ex : x ≡ start_at c.xorigin c.width zx) (ey : y ≡ start_at c.yorigin c.height zy) where
   index : c ≡ config_of t W H → y * c.stride + x ≡ window_start t W H zx zy
@@ -28,15 +28,13 @@ module _ (t : PlaneType) (W H : ℕ) (c : PlaneConfig) (zx zy : ℤ) (x y : ℕ)
       let l : y ≤ 8288 = omega arith in
       let m : y * c.stride ≤ 8288 * 8288 = mul-le-mul l z.stride_top in omega arith
 
-within : (c : goal.After-struct_known-1) → c.before.before.clamp-row.result * c.before.before.before.plane_config-c.result.stride + c.before.clamp-column.result ≤ 8288 * 8288 + 8288
+within : (c : goal.After-struct_known-1) → c.clamp-row.result * c.plane_config-c.result.stride + c.clamp-column.result ≤ 8288 * 8288 + 8288
 within c =
-    let r = c.before.before.before in
-    small r.before.args.t r.before.args.pic_w r.before.args.pic_h r.plane_config-c.result _ _ _ _ c.before.clamp-column.ensures c.before.before.clamp-row.ensures (sized r)
+    small c.args.t c.args.pic_w c.args.pic_h c.plane_config-c.result _ _ _ _ c.clamp-column.ensures c.clamp-row.ensures (sized c.before.before.before)
 
 pub returns : goal.returns
 returns c =
-    let r = c.before.before.before in
-    index _ _ _ r.plane_config-c.result _ _ _ _ c.before.clamp-column.ensures c.before.before.clamp-row.ensures r.plane_config-c.ensures
+    index _ _ _ c.plane_config-c.result _ _ _ _ c.clamp-column.ensures c.clamp-row.ensures c.plane_config-c.ensures
 
 pub clamp-row-requires : goal.clamp-row-requires
 clamp-row-requires c = let z = sized c in omega arith

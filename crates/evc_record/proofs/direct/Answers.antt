@@ -5,14 +5,13 @@ use Rattle.evc_record.proofs.direct.Goals as goal
 
 pub returns-then-code-ne0 : goal.returns-then-code-ne0
 returns-then-code-ne0 c =
-    let a = c.before.before.args in
-    refusal a.b a.p a.has-col a.col-mv.now _ c.before.direct_code-code.ensures c.if-code-ne0.true
+    let a = c.args in
+    refusal a.b a.p a.has-col a.col-mv.now _ c.direct_code-code.ensures c.if-code-ne0.true
 
 pub direct_mv-requires : goal.direct_mv-requires
-direct_mv-requires c = sym c.before.direct_code-code.ensures ∙ c.if-code-ne0.false
+direct_mv-requires c = sym c.direct_code-code.ensures ∙ c.if-code-ne0.false
 
 pub returns : goal.returns
 returns c =
-    let e = c.before in
-    let a = e.before.before.args in
-    done a.b a.p a.has-col a.col-mv.now _ (sym e.before.direct_code-code.ensures ∙ e.if-code-ne0.false) c.direct_mv.ensures
+    let a = c.args in
+    done a.b a.p a.has-col a.col-mv.now _ (sym c.direct_code-code.ensures ∙ c.if-code-ne0.false) c.direct_mv.ensures

@@ -11,6 +11,9 @@ use Rattle.evc_def.proofs.Codes.{refused, passed, none}
 use Rattle.evc_trace.specs.Format.{is_well_formed, record_of}
 use Rattle.evc_record.specs.Record.{form_code}
 use Rattle.evc_record.proofs.form_code.Goals as goal
+use Rattle.evc_record.proofs.form_code.Lts as place
+use Rattle.evc_record.proofs.form_code.Reads.{Pre, Post}
+use Rattle.evc_record.proofs.form_code.Tie.{the-claims as claims}
 
 module _ (s : List ℕ) where
   code_11 : length s < 22 → 11 ≡ form_code s
@@ -26,11 +29,11 @@ module _ (s : List ℕ) where
   code_0 l e = sym (passed _ _ _ (le-ltb _ _ l) ∙ passed _ _ _ e ∙ none)
 
 -- the test of the code is that of the definition
-test : (c : goal.After-shared_slice_known-2-1) → let s = c.before.before.before.before.before.args.s.now in
-    not (c.before.is_well_formed.result && eqb (get_or s 21 0) 0) ≡ not (is_well_formed (record_of 2 s) && eqb (get_or s 21 0) 0)
+test : (c : place.After-shared_slice_known2 claims Pre Post) → let s = c.args.s.now in
+    not (c.is_well_formed.result && eqb (get_or s 21 0) 0) ≡ not (is_well_formed (record_of 2 s) && eqb (get_or s 21 0) 0)
 test c =
-    let s = c.before.before.before.before.before.args.s.now in
-    ap (λ (t : Bool). not (t && eqb (get_or s 21 0) 0)) (c.before.is_well_formed.ensures ∙ ap is_well_formed c.before.before.read_record-r.ensures)
+    let s = c.args.s.now in
+    ap (λ (t : Bool). not (t && eqb (get_or s 21 0) 0)) (c.is_well_formed.ensures ∙ ap is_well_formed c.read_record-r.ensures)
 
 pub returns-then-s-lt-RECORD_LEN : goal.returns-then-s-lt-RECORD_LEN
 returns-then-s-lt-RECORD_LEN c = code_11 _ c.if-s-lt-RECORD_LEN.true
@@ -45,7 +48,7 @@ pub bounds-s-21 : goal.bounds-s-21
 bounds-s-21 c = search rules
 
 pub returns-then-not-is_well_formed-s : goal.returns-then-not-is_well_formed-s
-returns-then-not-is_well_formed-s c = code_12 _ c.before.before.before.before.if-s-lt-RECORD_LEN.false (sym (test c.before) ∙ c.if-not-is_well_formed-s.true)
+returns-then-not-is_well_formed-s c = code_12 _ c.if-s-lt-RECORD_LEN.false (sym (test c.before.before) ∙ c.if-not-is_well_formed-s.true)
 
 pub returns : goal.returns
-returns c = code_0 _ c.before.before.before.before.if-s-lt-RECORD_LEN.false (sym (test c.before) ∙ c.if-not-is_well_formed-s.false)
+returns c = code_0 _ c.if-s-lt-RECORD_LEN.false (sym (test c.before.before) ∙ c.if-not-is_well_formed-s.false)

@@ -9,4 +9,4 @@ in_order : (h : TraceHeader) (r : EvcTraceRecord) → record { poc = h.poc; poc0
 in_order h r = refl
 
 pub returns : goal.returns
-returns c = let a = c.before.before.args in in_order a.h a.r
+returns c = let a = c.args in in_order a.h a.r

@@ -23,7 +23,6 @@ shape_of-pred1 c = search rules
 
 pub returns : goal.returns
 returns c =
-    let s = c.before.before.before.before.before.before.before.before.before.before.before.before.before.before.before.before.before.before in
-    let a = s.args in
-    predicted _ _ _ _ _ _ a.y0.now a.u0.now a.v0.now a.y1.now a.u1.now a.v1.now a.pred0.now a.pred1.now _ _ s.requires.0 s.requires.1
-    c.before.before.before.before.before.before.before.before.before.Block-of.ensures c.before.before.before.before.before.before.before.before.list0-l0.ensures c.before.before.before.before.before.before.before.list1-l1.ensures c.before.before.before.before.evc_mc2.ensures.result_value c.before.before.before.before.evc_mc2.ensures.pred0_after
+    let a = c.args in
+    predicted _ _ _ _ _ _ a.y0.now a.u0.now a.v0.now a.y1.now a.u1.now a.v1.now a.pred0.now a.pred1.now _ _ c.requires.0 c.requires.1
+    c.Block-of.ensures c.list0-l0.ensures c.list1-l1.ensures c.evc_mc2.ensures.result_value c.evc_mc2.ensures.pred0_after

@@ -15,18 +15,15 @@ cu_dim_offset-offset_v-requires c = search rules
 
 pub put_component-requires : goal.put_component-requires
 put_component-requires c =
-    let s = c.before.before.before.before.before.before.before in
-    let a = s.args in record { b_value = s.requires.b_value.0; w_in_bounds = (component_in a.b s.requires.b_value.0 luma _ s.requires.b_value.1, (long_enough _ _ (planes a.y.now a.u.now a.v.now) s.requires.v_value).0) }
+    let a = c.args in record { b_value = c.requires.b_value.0; w_in_bounds = (component_in a.b c.requires.b_value.0 luma _ c.requires.b_value.1, (long_enough _ _ (planes a.y.now a.u.now a.v.now) c.requires.v_value).0) }
 
 pub put_component-requires-2 : goal.put_component-requires-2
 put_component-requires-2 c =
-    let s = c.before.before.before.before.before.before.before.before.before.before.before in
-    let a = s.args in record { b_value = s.requires.b_value.0; w_in_bounds = (omega (arith, component_in a.b s.requires.b_value.0 cb _ s.requires.b_value.1, c.before.before.before.before.before.before.cu_dim_offset-offset_u.ensures), (long_enough _ _ (planes a.y.now a.u.now a.v.now) s.requires.v_value).1) }
+    let a = c.args in record { b_value = c.requires.b_value.0; w_in_bounds = (omega (arith, component_in a.b c.requires.b_value.0 cb _ c.requires.b_value.1, c.cu_dim_offset-offset_u.ensures), (long_enough _ _ (planes a.y.now a.u.now a.v.now) c.requires.v_value).1) }
 
 pub put_component-requires-3 : goal.put_component-requires-3
 put_component-requires-3 c =
-    let s = c.before.before.before.before.before.before.before.before.before.before.before.before.before.before.before in
-    let a = s.args in record { b_value = s.requires.b_value.0; w_in_bounds = (omega (arith, component_in a.b s.requires.b_value.0 cr _ s.requires.b_value.1, c.before.before.before.before.before.before.before.before.before.cu_dim_offset-offset_v.ensures), (long_enough _ _ (planes a.y.now a.u.now a.v.now) s.requires.v_value).2) }
+    let a = c.args in record { b_value = c.requires.b_value.0; w_in_bounds = (omega (arith, component_in a.b c.requires.b_value.0 cr _ c.requires.b_value.1, c.cu_dim_offset-offset_v.ensures), (long_enough _ _ (planes a.y.now a.u.now a.v.now) c.requires.v_value).2) }
 
 pub shape_of-y : goal.shape_of-y
 shape_of-y c = search rules
@@ -39,5 +36,5 @@ shape_of-v c = search rules
 
 pub returns : goal.returns
 returns c =
-    let a = c.before.before.before.before.before.before.before.before.before.before.before.before.before.before.before.before.before.before.args in
-    let b = a.b in record { y_after = component_put b luma a.y.now _ a.pred.now _ refl c.before.before.before.before.before.before.before.before.before.before.put_component.ensures; u_after = component_put b cb a.u.now _ a.pred.now _ c.before.before.before.before.before.before.before.before.before.before.before.before.before.cu_dim_offset-offset_u.ensures c.before.before.before.before.before.before.put_component-2.ensures; v_after = component_put b cr a.v.now _ a.pred.now _ c.before.before.before.before.before.before.before.before.before.before.before.before.cu_dim_offset-offset_v.ensures c.before.before.put_component-3.ensures }
+    let a = c.args in
+    let b = a.b in record { y_after = component_put b luma a.y.now _ a.pred.now _ refl c.put_component.ensures; u_after = component_put b cb a.u.now _ a.pred.now _ c.cu_dim_offset-offset_u.ensures c.put_component-2.ensures; v_after = component_put b cr a.v.now _ a.pred.now _ c.cu_dim_offset-offset_v.ensures c.put_component-3.ensures }

@@ -31,7 +31,7 @@ pub slice_bounds-result-end : goal.slice_bounds-result-end
 slice_bounds-result-end c = search rules
 
 pub returns-then-trace-at-lt-RECORD_LEN : goal.returns-then-trace-at-lt-RECORD_LEN
-returns-then-trace-at-lt-RECORD_LEN c = let a = c.before.before.args in left a.trace.now a.at _ c.before.if-trace-at-lt-RECORD_LEN.true refl
+returns-then-trace-at-lt-RECORD_LEN c = let a = c.args in left a.trace.now a.at _ c.if-trace-at-lt-RECORD_LEN.true refl
 
 pub overflow_add-end : goal.overflow_add-end
 overflow_add-end c = search rules
@@ -46,4 +46,4 @@ pub slice_bounds-result-end-2 : goal.slice_bounds-result-end-2
 slice_bounds-result-end-2 c = search rules
 
 pub returns : goal.returns
-returns c = let a = c.before.before.args in whole a.trace.now a.at _ (drops a.at)
+returns c = let a = c.args in whole a.trace.now a.at _ (drops a.at)

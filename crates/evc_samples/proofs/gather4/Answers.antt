@@ -44,4 +44,4 @@ gather_at-requires-4 c = search rules
 
 -- src/lib.rt:143:1
 pub returns : goal.returns
-returns c = turn4 _ _ _ _ _ c.before.before.before.gather_at.ensures c.before.before.gather_at-2.ensures c.before.gather_at-3.ensures c.gather_at-4.ensures
+returns c = turn4 _ _ _ _ _ c.gather_at.ensures c.gather_at-2.ensures c.gather_at-3.ensures c.gather_at-4.ensures

@@ -93,4 +93,4 @@ gather_at-requires-8 c = search rules
 -- src/lib.rt:127:1
 pub returns : goal.returns
 returns c =
-    turn8 _ _ _ _ _ c.before.before.before.before.before.before.before.gather_at.ensures c.before.before.before.before.before.before.gather_at-2.ensures c.before.before.before.before.before.gather_at-3.ensures c.before.before.before.before.gather_at-4.ensures c.before.before.before.gather_at-5.ensures c.before.before.gather_at-6.ensures c.before.gather_at-7.ensures c.gather_at-8.ensures
+    turn8 _ _ _ _ _ c.gather_at.ensures c.gather_at-2.ensures c.gather_at-3.ensures c.gather_at-4.ensures c.gather_at-5.ensures c.gather_at-6.ensures c.gather_at-7.ensures c.gather_at-8.ensures

@@ -30,4 +30,4 @@ gather-requires-2 c = search rules
 
 -- src/lib.rt:101:1
 pub returns : goal.returns
-returns c = c.gather-2.ensures ∙ ap (λ (b : Bool). too_large c.before.before.before.before.before.args.o || b) c.before.gather.ensures
+returns c = c.gather-2.ensures ∙ ap (λ (b : Bool). too_large c.args.o || b) c.gather.ensures

@@ -9,47 +9,50 @@ use Rattle.evc_samples.specs.Inner.{exceeds4}
 use Rattle.evc_samples.proofs.Samples.{rows_none, rows_more, ends_all}
 use Rattle.evc_samples.proofs.Lanes.{none4}
 use Rattle.evc_samples.proofs.or_rows4.Goals as goal
+use Rattle.evc_samples.proofs.or_rows4.Lts as place
+use Rattle.evc_samples.proofs.or_rows4.Reads.{Pre, Post}
+use Rattle.evc_samples.proofs.or_rows4.Tie.{the-claims as claims}
 
 pub loop-y-init : goal.loop-y-init
 loop-y-init c = (omega arith, none4 ∙ rows_none _ _ _ _)
 
-room : (c : goal.In-loop-y) → c.before.loop-y.y * c.before.before.before.args.stride + c.before.before.before.args.stride ≤ c.before.before.before.args.h * c.before.before.before.args.stride
+room : (c : place.In-loop claims Pre Post goal.the-invariant-loop-y goal.the-decreases-loop-y) → c.loop-y.y * c.args.stride + c.args.stride ≤ c.args.h * c.args.stride
 room c = row_fits _ c.loop-y-test.true
 
 pub loop-y-preserved : goal.loop-y-preserved
 loop-y-preserved c =
-    let z = c.before.before.before.before.args in
-    let y = c.before.before.loop-y.y in
-    let o = c.before.before.loop-y.o in
+    let z = c.args in
+    let y = c.loop-y.y in
+    let o = c.loop-y.o in
     let row = z.at + y * z.stride in (
       omega arith,
-      rows_more z.s.now z.at z.stride z.n y (exceeds4 o) (row_exceeds z.s.now row z.n) _ c.before.before.loop-y.invariant.1 refl
+      rows_more z.s.now z.at z.stride z.n y (exceeds4 o) (row_exceeds z.s.now row z.n) _ c.loop-y.invariant.1 refl
           (c.gather4-o.ensures ∙ ap (λ (b : Bool). exceeds4 o || b) (ends_all z.s.now row z.n 4 4 (omega arith) (omega arith) (omega arith))),
     )
 
 pub returns : goal.returns
 unfolding exceeds4
 returns c =
-    let i = c.before.before.before.before.loop-y in
-    let z = c.before.before.before.before.before.before.args in
+    let i = c.loop-y in
+    let z = c.args in
     let l = i.o in
     let e : i.y ≡ z.h = omega arith in
-    (c.gather-3.ensures ∙ ap (λ (b : Bool). b || too_large l.o3) (c.before.gather-2.ensures ∙ ap (λ (b : Bool). b || too_large l.o2) c.before.before.gather.ensures)) ∙ i.invariant.1 ∙ ap (λ (m : ℕ). exceeds z.s.now z.at z.stride z.n m) e
+    (c.gather-3.ensures ∙ ap (λ (b : Bool). b || too_large l.o3) (c.gather-2.ensures ∙ ap (λ (b : Bool). b || too_large l.o2) c.gather.ensures)) ∙ i.invariant.1 ∙ ap (λ (m : ℕ). exceeds z.s.now z.at z.stride z.n m) e
 
 pub overflow_mul-i : goal.overflow_mul-i
-overflow_mul-i c = let r = room c in omega arith
+overflow_mul-i c = let r = room c.before in omega arith
 
 pub overflow_add-i : goal.overflow_add-i
-overflow_add-i c = let r = room c in omega arith
+overflow_add-i c = let r = room c.before in omega arith
 
 pub overflow_add-i-in-loop-y : goal.overflow_add-i-in-loop-y
-overflow_add-i-in-loop-y c = let r = room c in omega arith
+overflow_add-i-in-loop-y c = let r = room c.before in omega arith
 
 pub overflow_sub-i : goal.overflow_sub-i
 overflow_sub-i c = omega arith
 
 pub gather4-o-requires : goal.gather4-o-requires
-gather4-o-requires c = let r = room c in omega arith
+gather4-o-requires c = let r = room c.before in omega arith
 
 pub overflow_step-y : goal.overflow_step-y
 overflow_step-y c = omega arith

@@ -13,6 +13,9 @@ use Rattle.evc_def.proofs.Codes.{refused, passed, none}
 use Rattle.evc_trace.specs.Format.{write_header_code}
 use Rattle.evc_trace.proofs.Written.{kept, wrote}
 use Rattle.evc_trace.proofs.evc_trace_write_header.Goals as goal
+use Rattle.evc_trace.proofs.evc_trace_write_header.Lts as place
+use Rattle.evc_trace.proofs.evc_trace_write_header.Reads.{Pre, Post}
+use Rattle.evc_trace.proofs.evc_trace_write_header.Tie.{the-claims as claims}
 
 module _ (W H : ℕ) (d : List ℕ) where
   code_1 : bad_picture W H ≡ true → 1 ≡ write_header_code W H d
@@ -27,23 +30,23 @@ module _ (W H : ℕ) (d : List ℕ) where
   unfolding write_header_code
   code_0 e l = sym (passed _ _ _ e ∙ passed _ _ _ (le-ltb _ _ l) ∙ none)
 
-good : (c : goal.Else-bad_picture) → bad_picture c.before.before.before.args.pic_w c.before.before.before.args.pic_h ≡ false
-good c = sym c.before.bad_picture.ensures ∙ c.if-bad_picture.false
+good : (c : place.Else1 claims Pre Post) → bad_picture c.args.pic_w c.args.pic_h ≡ false
+good c = sym c.bad_picture.ensures ∙ c.if-bad_picture.false
 
 pub bad_picture-requires : goal.bad_picture-requires
 bad_picture-requires c = search rules
 
 pub returns-then-bad_picture : goal.returns-then-bad_picture
-returns-then-bad_picture c = let e = code_1 _ _ _ (sym c.before.bad_picture.ensures ∙ c.if-bad_picture.true) in record { value = e; out_after = kept _ _ _ _ e (λ z. omega arith) }
+returns-then-bad_picture c = let e = code_1 _ _ _ (sym c.bad_picture.ensures ∙ c.if-bad_picture.true) in record { value = e; out_after = kept _ _ _ _ e (λ z. omega arith) }
 
 pub returns-then-out-lt-HEADER_LEN : goal.returns-then-out-lt-HEADER_LEN
-returns-then-out-lt-HEADER_LEN c = let e = code_4 _ _ _ (sym c.before.before.bad_picture.ensures ∙ c.before.if-bad_picture.false) c.if-out-lt-HEADER_LEN.true in record { value = e; out_after = kept _ _ _ _ e (λ z. omega arith) }
+returns-then-out-lt-HEADER_LEN c = let e = code_4 _ _ _ (sym c.bad_picture.ensures ∙ c.if-bad_picture.false) c.if-out-lt-HEADER_LEN.true in record { value = e; out_after = kept _ _ _ _ e (λ z. omega arith) }
 
 pub overflow_cast-pic_w : goal.overflow_cast-pic_w
-overflow_cast-pic_w c = record { fits = omega (arith, (picture_sides _ _ (good c.before)).0.top) }
+overflow_cast-pic_w c = record { fits = omega (arith, (picture_sides _ _ (good c.before.before)).0.top) }
 
 pub overflow_cast-pic_h : goal.overflow_cast-pic_h
-overflow_cast-pic_h c = record { fits = omega (arith, (picture_sides _ _ (good c.before)).1.top) }
+overflow_cast-pic_h c = record { fits = omega (arith, (picture_sides _ _ (good c.before.before)).1.top) }
 
 pub put_header-requires : goal.put_header-requires
 put_header-requires c = search rules
@@ -52,4 +55,4 @@ pub shape_of-out : goal.shape_of-out
 shape_of-out c = search rules
 
 pub returns : goal.returns
-returns c = let e = code_0 _ _ _ (sym c.before.before.before.before.before.before.bad_picture.ensures ∙ c.before.before.before.before.before.if-bad_picture.false) c.before.before.before.before.if-out-lt-HEADER_LEN.false in record { value = e; out_after = wrote _ _ _ _ e c.before.before.put_header.ensures }
+returns c = let e = code_0 _ _ _ (sym c.bad_picture.ensures ∙ c.if-bad_picture.false) c.if-out-lt-HEADER_LEN.false in record { value = e; out_after = wrote _ _ _ _ e c.put_header.ensures }

@@ -35,16 +35,16 @@ pub bad_picture-requires : goal.bad_picture-requires
 bad_picture-requires c = search rules
 
 pub returns-then-bad_picture : goal.returns-then-bad_picture
-returns-then-bad_picture c = let e = code_1 _ _ _ _ (sym c.before.bad_picture.ensures ∙ c.if-bad_picture.true) in record { value = e; out_after = kept _ _ _ _ e (λ z. omega arith) }
+returns-then-bad_picture c = let e = code_1 _ _ _ _ (sym c.bad_picture.ensures ∙ c.if-bad_picture.true) in record { value = e; out_after = kept _ _ _ _ e (λ z. omega arith) }
 
 pub returns-then-out-lt-RECORD_LEN : goal.returns-then-out-lt-RECORD_LEN
-returns-then-out-lt-RECORD_LEN c = let e = code_4 _ _ _ _ (sym c.before.before.bad_picture.ensures ∙ c.before.if-bad_picture.false) c.if-out-lt-RECORD_LEN.true in record { value = e; out_after = kept _ _ _ _ e (λ z. omega arith) }
+returns-then-out-lt-RECORD_LEN c = let e = code_4 _ _ _ _ (sym c.bad_picture.ensures ∙ c.if-bad_picture.false) c.if-out-lt-RECORD_LEN.true in record { value = e; out_after = kept _ _ _ _ e (λ z. omega arith) }
 
 pub is_well_formed-requires : goal.is_well_formed-requires
 is_well_formed-requires c = search rules
 
 pub returns-then-not-is_well_formed : goal.returns-then-not-is_well_formed
-returns-then-not-is_well_formed c = let e = code_12 _ _ _ _ (sym c.before.before.before.before.bad_picture.ensures ∙ c.before.before.before.if-bad_picture.false) c.before.before.if-out-lt-RECORD_LEN.false (ap not (sym c.before.is_well_formed.ensures) ∙ c.if-not-is_well_formed.true) in record { value = e; out_after = kept _ _ _ _ e (λ z. omega arith) }
+returns-then-not-is_well_formed c = let e = code_12 _ _ _ _ (sym c.bad_picture.ensures ∙ c.if-bad_picture.false) c.if-out-lt-RECORD_LEN.false (ap not (sym c.is_well_formed.ensures) ∙ c.if-not-is_well_formed.true) in record { value = e; out_after = kept _ _ _ _ e (λ z. omega arith) }
 
 pub put_record-requires : goal.put_record-requires
 put_record-requires c = search rules
@@ -53,4 +53,4 @@ pub shape_of-out : goal.shape_of-out
 shape_of-out c = search rules
 
 pub returns : goal.returns
-returns c = let e = code_0 _ _ _ _ (sym c.before.before.before.before.before.before.before.before.bad_picture.ensures ∙ c.before.before.before.before.before.before.before.if-bad_picture.false) c.before.before.before.before.before.before.if-out-lt-RECORD_LEN.false (ap not (sym c.before.before.before.before.before.is_well_formed.ensures) ∙ c.before.before.before.before.if-not-is_well_formed.false) in record { value = e; out_after = wrote _ _ _ _ e c.before.before.put_record.ensures }
+returns c = let e = code_0 _ _ _ _ (sym c.bad_picture.ensures ∙ c.if-bad_picture.false) c.if-out-lt-RECORD_LEN.false (ap not (sym c.is_well_formed.ensures) ∙ c.if-not-is_well_formed.false) in record { value = e; out_after = wrote _ _ _ _ e c.put_record.ensures }

@@ -27,4 +27,4 @@ pub bounds-s-2 : goal.bounds-s-2
 bounds-s-2 c = search rules
 
 pub returns : goal.returns
-returns c = marked _ _ c.before.before.before.u16_at-version.ensures
+returns c = marked _ _ c.u16_at-version.ensures

@@ -18,4 +18,4 @@ pub is_zero_mv-zero1-requires : goal.is_zero_mv-zero1-requires
 is_zero_mv-zero1-requires c = search rules
 
 pub returns : goal.returns
-returns c = form _ _ _ c.before.before.before.before.before.before.before.is_zero_mv-zero0.ensures c.before.before.before.before.before.before.is_zero_mv-zero1.ensures
+returns c = form _ _ _ c.is_zero_mv-zero0.ensures c.is_zero_mv-zero1.ensures

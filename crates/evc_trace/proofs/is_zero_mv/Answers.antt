@@ -17,4 +17,4 @@ zero_bits (pos a) f = refl
 zero_bits (negsuc a) f = let k : a < 32768 = f.sfits in ne_eqb (65536 - suc a) 0 (λ e. omega arith)
 
 pub returns : goal.returns
-returns c = let a = c.before.before.before.before.args.mv in ap₂ ◌&&◌ (zero_bits a.x (search rules)) (zero_bits a.y (search rules))
+returns c = let a = c.args.mv in ap₂ ◌&&◌ (zero_bits a.x (search rules)) (zero_bits a.y (search rules))

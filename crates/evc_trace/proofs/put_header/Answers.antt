@@ -18,5 +18,4 @@ shape_of-out c = search rules
 
 pub returns : goal.returns
 returns c =
-    let s = c.before.before.before.before.before.before.before.before.before.before.before.before.before in
-    from_start _ _ _ (joined _ _ _ 0 _ _ (joined _ _ _ 0 _ _ c.before.before.before.before.before.before.before.before.before.before.put_mark.ensures c.before.before.before.before.before.before.put_pair.ensures) c.before.before.put_pair-2.ensures) s.requires
+    from_start _ _ _ (joined _ _ _ 0 _ _ (joined _ _ _ 0 _ _ c.put_mark.ensures c.put_pair.ensures) c.put_pair-2.ensures) c.requires

@@ -20,7 +20,7 @@ shape_of-out c = search rules
 
 pub returns : goal.returns
 returns c =
-    let e0 = c.before.before.before.before.before.before.before.before.before.before.before.before.before.before.put_u8.ensures in
-    let e1 = joined _ _ _ 0 _ _ e0 c.before.before.before.before.before.before.before.before.before.before.put_u8-2.ensures in
-    let e2 = joined _ _ _ 0 _ _ e1 c.before.before.before.before.before.before.put_u8-3.ensures in
-    joined _ _ _ 0 _ _ e2 c.before.before.put_u16.ensures
+    let e0 = c.put_u8.ensures in
+    let e1 = joined _ _ _ 0 _ _ e0 c.put_u8-2.ensures in
+    let e2 = joined _ _ _ 0 _ _ e1 c.put_u8-3.ensures in
+    joined _ _ _ 0 _ _ e2 c.put_u16.ensures

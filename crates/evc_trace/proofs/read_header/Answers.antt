@@ -36,4 +36,4 @@ pub overflow_cast-result-4 : goal.overflow_cast-result-4
 overflow_cast-result-4 c = search rules
 
 pub returns : goal.returns
-returns c = made _ _ _ _ _ c.before.before.before.u16_at-pic_w.ensures c.before.before.u16_at-pic_h.ensures c.before.u16_at-poc.ensures c.u16_at-list_poc0.ensures
+returns c = made _ _ _ _ _ c.u16_at-pic_w.ensures c.u16_at-pic_h.ensures c.u16_at-poc.ensures c.u16_at-list_poc0.ensures

@@ -42,4 +42,4 @@ pub u16_at-requires-6 : goal.u16_at-requires-6
 u16_at-requires-6 c = search rules
 
 pub returns : goal.returns
-returns c = made _ _ _ _ _ _ _ _ _ c.before.before.before.before.before.before.before.before.u16_at.ensures c.before.before.before.before.before.before.before.u16_at-2.ensures c.before.before.before.before.before.before.u16_at-3.ensures c.before.before.before.before.before.u16_at-4.ensures c.before.before.before.mv_at.ensures c.before.before.mv_at-2.ensures c.before.u16_at-5.ensures c.u16_at-6.ensures
+returns c = made _ _ _ _ _ _ _ _ _ c.u16_at.ensures c.u16_at-2.ensures c.u16_at-3.ensures c.u16_at-4.ensures c.mv_at.ensures c.mv_at-2.ensures c.u16_at-5.ensures c.u16_at-6.ensures

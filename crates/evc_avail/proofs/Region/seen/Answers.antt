@@ -8,20 +8,16 @@ use Rattle.evc_avail.proofs.Region.seen.Goals as goal
 
 pub returns-in-Picture : goal.returns-in-Picture
 returns-in-Picture c =
-    let g = c.before in
-    let t = g.before in
-    let word = t.before.before.args.mcu.0 in
-    let seen = word - g.GET_SN.result in
-    subst (λ (region : Region). Seen region word seen) (sym t.enum_told-1.given.1) (picture_seen word seen (ap (λ (n : ℕ). word - n) g.GET_SN.ensures))
+    let word = c.args.mcu.0 in
+    let seen = word - c.GET_SN.result in
+    subst (λ (region : Region). Seen region word seen) (sym c.enum_told-1.given.1) (picture_seen word seen (ap (λ (n : ℕ). word - n) c.GET_SN.ensures))
 
 -- the slice whose number is taken out
-slice : (k : goal.In-Slice) → k.before.before.before.args.self ≡ Region.Slice k.before.self-1.given.0.0
+slice : (k : goal.In-Slice) → k.args.self ≡ Region.Slice k.self-1.given.0.0
 slice k = cc
 
 pub returns-in-Slice : goal.returns-in-Slice
 returns-in-Slice c =
-    let k = c.before in
-    let s = k.before.before.before in
-    let word = s.args.mcu.0 in
+    let word = c.args.mcu.0 in
     let seen = c.wrapping_sub_u32.result in
-    subst (λ (region : Region). Seen region word seen) (sym (slice k)) (slice_seen _ word seen (subst (λ (region : Region). slice_in region ≤ max_slice_num) (slice k) s.requires) (search rules) c.wrapping_sub_u32.ensures)
+    subst (λ (region : Region). Seen region word seen) (sym (slice c.before)) (slice_seen _ word seen (subst (λ (region : Region). slice_in region ≤ max_slice_num) (slice c.before) c.requires) (search rules) c.wrapping_sub_u32.ensures)

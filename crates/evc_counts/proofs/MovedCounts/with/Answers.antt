@@ -21,19 +21,17 @@ made c m p q r s e f g h = rw (e, f, g, h)
 
 pub returns : goal.returns
 returns c =
-    let r = c.before.before.before in
-    let q = r.before.before in
-    let a = q.before.before.before.args in
-    made a.self a.m _ _ _ _ q.before.before.one_if.ensures q.one_if-2.ensures r.one_if-3.ensures c.before.one_if-4.ensures
+    let a = c.args in
+    made a.self a.m _ _ _ _ c.one_if.ensures c.one_if-2.ensures c.one_if-3.ensures c.one_if-4.ensures
 
 pub overflow_add-result : goal.overflow_add-result
-overflow_add-result c = room _ _ _ _ c.before.before.requires.across_low c.before.one_if.ensures
+overflow_add-result c = room _ _ _ _ c.requires.across_low c.one_if.ensures
 
 pub overflow_add-result-2 : goal.overflow_add-result-2
-overflow_add-result-2 c = room _ _ _ _ c.before.before.before.before.requires.across_high c.before.one_if-2.ensures
+overflow_add-result-2 c = room _ _ _ _ c.requires.across_high c.one_if-2.ensures
 
 pub overflow_add-result-3 : goal.overflow_add-result-3
-overflow_add-result-3 c = room _ _ _ _ c.before.before.before.before.before.before.requires.down_low c.before.one_if-3.ensures
+overflow_add-result-3 c = room _ _ _ _ c.requires.down_low c.one_if-3.ensures
 
 pub overflow_add-result-4 : goal.overflow_add-result-4
-overflow_add-result-4 c = room _ _ _ _ c.before.before.before.before.before.before.before.before.requires.down_high c.before.one_if-4.ensures
+overflow_add-result-4 c = room _ _ _ _ c.requires.down_high c.one_if-4.ensures

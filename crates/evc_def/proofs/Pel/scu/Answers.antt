@@ -12,13 +12,13 @@ use Rattle.evc_int.proofs.Division.{is_shr}
 use Rattle.evc_int.proofs.Machine.{signed, rng_abs, to_unsigned}
 use Rattle.evc_def.proofs.Pel.scu.Goals as goal
 
-own : (c : goal.After-struct_told-1) → SFits w32 c.before.before.args.self.0
+own : (c : goal.After-struct_told-1) → SFits w32 c.args.self.0
 own c = search rules
 
-place : (c : goal.After-struct_told-1) → Is c.before.before.args.self.0 (nat_abs c.before.before.args.self.0) 0
+place : (c : goal.After-struct_told-1) → Is c.args.self.0 (nat_abs c.args.self.0) 0
 place c =
-    let z = c.before.before.args.self.0 in
-    let h = ≤ℤ-yes (nat 0) (of z) c.before.before.requires in
+    let z = c.args.self.0 in
+    let h = ≤ℤ-yes (nat 0) (of z) c.requires in
     is_by (of z) (omega (arith, parts (of z), abs_of z))
 
 pub overflow_cast-result : goal.overflow_cast-result
@@ -29,5 +29,5 @@ overflow_cast-result-3 c = simp (to_z-of_z (own c)) (record { fits = let f = own
 
 pub returns : goal.returns
 returns c =
-    let z = c.before.before.args.self.0 in
+    let z = c.args.self.0 in
     simp (to_z-of_z (own c)) (same (nat (nat_abs z / 4)) (is_shr 4 0 (lit< tt) (place c)) (omega arith))

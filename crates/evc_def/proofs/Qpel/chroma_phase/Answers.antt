@@ -5,7 +5,7 @@ use mir.Val.{SFits}
 use Rattle.evc_def.proofs.Positions.{unsigned_8, phase_8}
 use Rattle.evc_def.proofs.Qpel.chroma_phase.Goals as goal
 
-own : (c : goal.After-struct_told-1) → SFits w32 c.before.before.args.self.0
+own : (c : goal.After-struct_told-1) → SFits w32 c.args.self.0
 own c = search rules
 
 pub overflow_cast-result : goal.overflow_cast-result

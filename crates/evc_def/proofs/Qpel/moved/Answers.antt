@@ -11,11 +11,11 @@ wide c = sfits_widen tt c.ranges.mv
 pub overflow_cast-result : goal.overflow_cast-result
 overflow_cast-result c = simp (to_z-of_z c.ranges.mv) (wide c)
 
-own : (c : goal.After-struct_told-1) → SFits w32 c.before.before.args.self.0
+own : (c : goal.After-struct_told-1) → SFits w32 c.args.self.0
 own c = search rules
 
 pub overflow_add-result : goal.overflow_add-result
-overflow_add-result c = let s = c.before.before in simp (to_z-of_z s.ranges.mv, to_z-of_z (wide s), to_z-of_z (own c)) s.requires
+overflow_add-result c = simp (to_z-of_z c.ranges.mv, to_z-of_z (wide c.before.before), to_z-of_z (own c)) c.requires
 
 pub returns : goal.returns
-returns c = let s = c.before.before in simp (to_z-of_z s.ranges.mv, to_z-of_z (wide s), to_z-of_z (own c), to_z-of_z s.requires)
+returns c = simp (to_z-of_z c.ranges.mv, to_z-of_z (wide c.before.before), to_z-of_z (own c), to_z-of_z c.requires)

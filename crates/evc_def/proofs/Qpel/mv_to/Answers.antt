@@ -5,24 +5,23 @@ use mir.Val.{SFits}
 use mir.Facts.{to_z-of_z, sfits_widen}
 use lib.IntN.{◌-ℤ◌}
 use Rattle.evc_def.proofs.Qpel.mv_to.Goals as goal
+use Rattle.evc_def.proofs.Qpel.mv_to.Lts as place
+use Rattle.evc_def.proofs.Qpel.mv_to.Reads.{Pre, Post}
 
-abbrev start : goal.After-struct_told-2-1 → goal.Start
-start c = c.before.before.before.before
-
-to_fits : (c : goal.After-struct_told-2-1) → SFits w32 (start c).args.to.0
+to_fits : (c : goal.After-struct_told-2-1) → SFits w32 c.args.to.0
 to_fits c = search rules
 
-own : (c : goal.After-struct_told-2-1) → SFits w32 (start c).args.self.0
+own : (c : goal.After-struct_told-2-1) → SFits w32 c.args.self.0
 own c = search rules
 
-wide : (s : goal.Start) → SFits w32 (s.args.to.0 -ℤ s.args.self.0)
+wide : (s : place.Start Pre Post) → SFits w32 (s.args.to.0 -ℤ s.args.self.0)
 wide s = sfits_widen tt s.requires
 
 pub overflow_sub-result : goal.overflow_sub-result
-overflow_sub-result c = simp (to_z-of_z (to_fits c), to_z-of_z (own c)) (wide (start c))
+overflow_sub-result c = simp (to_z-of_z (to_fits c), to_z-of_z (own c)) (wide c.before.before.before.before)
 
 pub overflow_cast-result : goal.overflow_cast-result
-overflow_cast-result c = let s = start c in simp (to_z-of_z (to_fits c), to_z-of_z (own c), to_z-of_z (wide s)) s.requires
+overflow_cast-result c = simp (to_z-of_z (to_fits c), to_z-of_z (own c), to_z-of_z (wide c.before.before.before.before)) c.requires
 
 pub returns : goal.returns
-returns c = let s = start c in simp (to_z-of_z (to_fits c), to_z-of_z (own c), to_z-of_z (wide s), to_z-of_z s.requires)
+returns c = simp (to_z-of_z (to_fits c), to_z-of_z (own c), to_z-of_z (wide c.before.before.before.before), to_z-of_z c.requires)

@@ -6,7 +6,7 @@ use mir.Facts.{to_z-of_z}
 use Rattle.evc_int.proofs.Machine.{fits_shr}
 use Rattle.evc_def.proofs.Qpel.pel.Goals as goal
 
-own : (c : goal.After-struct_told-1) → SFits w32 c.before.before.args.self.0
+own : (c : goal.After-struct_told-1) → SFits w32 c.args.self.0
 own c = search rules
 
 pub returns : goal.returns

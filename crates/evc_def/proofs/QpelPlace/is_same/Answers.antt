@@ -6,8 +6,10 @@ use mir.Syntax.{w32}
 use mir.Val.{SFits}
 use Rattle.evc_def.proofs.Positions.{bits_eq}
 use Rattle.evc_def.proofs.QpelPlace.is_same.Goals as goal
+use Rattle.evc_def.proofs.QpelPlace.is_same.Lts as place
+use Rattle.evc_def.proofs.QpelPlace.is_same.Reads.{Pre, Post}
 
-fits : (s : goal.Start) → let a = s.args in (SFits w32 a.self.x.0 × SFits w32 a.other.x.0) × (SFits w32 a.self.y.0 × SFits w32 a.other.y.0)
+fits : (s : place.Start Pre Post) → let a = s.args in (SFits w32 a.self.x.0 × SFits w32 a.other.x.0) × (SFits w32 a.self.y.0 × SFits w32 a.other.y.0)
 fits s = ((search rules, search rules), (search rules, search rules))
 
 pub returns : goal.returns
