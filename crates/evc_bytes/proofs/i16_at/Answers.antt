@@ -19,4 +19,4 @@ pub returns : goal.returns
 returns c =
     let f = c.u16_at in
     let l : f.result < 65536 = search rules in
-    res w16 c.low16.type-inv ∙ bits_kept _ _ _ _ c.low16.ensures (to_z_pos w32 (omega arith)) f.ensures l
+    res w16 c.low16.type_inv ∙ bits_kept _ _ _ _ c.low16.ensures (to_z_pos w32 (omega arith)) f.ensures l

@@ -7,14 +7,11 @@ use mir.Facts.{to_z-of_z}
 use mir.Syntax.{w16}
 use mir.Val.{SFits}
 use Rattle.evc_int.proofs.Whole.{is-k*, is_eq, nat}
-use Rattle.evc_int.proofs.Expressions.{◌⊕◌, ◌⊖◌, ◌⊗◌, solve}
+use Rattle.evc_int.proofs.Expressions.{ !, ◌⊕◌, ◌⊖◌, ◌⊗◌, solve}
 use Rattle.evc_int.proofs.Machine.{fit, res}
 use Rattle.evc_clip.specs.Clip.{place_of, clip_component}
 use Rattle.evc_clip.proofs.Laws.{clipped_fits}
 use Rattle.evc_clip.proofs.clip_component.Goals as goal
-
-pub qpel-requires : goal.qpel-requires
-qpel-requires c = fit (is-k* 4 (is_eq c.new.ensures (nat c.args.place))) (omega arith)
 
 -- what leads from the block to a place, over plain numbers
 vector : (x : ℕ) (mv p a g : ℤ) → p ≡ pos x → a ≡ pos 4 *ℤ p → g ≡ place_of x mv → g -ℤ a ≡ mv
@@ -25,6 +22,3 @@ leads c = vector _ _ _ _ _ c.new.ensures c.qpel.ensures (simp (to_z-of_z c.range
 
 pub mv_to-requires : goal.mv_to-requires
 mv_to-requires c = subst (SFits w16) (sym (leads c)) (clipped_fits _ _ _ _ c.requires c.ranges.mv)
-
-pub returns : goal.returns
-returns c = res w16 c.mv_to.type-inv ∙ c.mv_to.ensures ∙ leads c.before

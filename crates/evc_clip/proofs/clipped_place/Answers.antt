@@ -11,9 +11,9 @@ use Rattle.evc_clip.specs.Clip.{place_of, clip_component, clip_mv, clipped_place
 use Rattle.evc_clip.proofs.clipped_place.Goals as goal
 use Rattle.evc_clip.proofs.clipped_place.Lts as place
 use Rattle.evc_clip.proofs.clipped_place.Reads.{Pre, Post}
-use Rattle.evc_clip.proofs.clipped_place.Tie.{the-claims as claims}
+use Rattle.evc_clip.proofs.clipped_place.Tie.{the-claims as claims, handed_clauses as clauses}
 
-fits : (s : place.Start claims Pre Post) → SFits w16 s.args.mv.x × SFits w16 s.args.mv.y
+fits : (s : place.Start claims Pre Post clauses) → SFits w16 s.args.mv.x × SFits w16 s.args.mv.y
 fits s = (search rules, search rules)
 
 -- the pair that is made is the one that the definition names

@@ -17,13 +17,6 @@ use Rattle.evc_clip.proofs.moved_component.Lts as place
 use Rattle.evc_clip.proofs.moved_component.Reads.{Pre, Post}
 use Rattle.evc_clip.proofs.moved_component.Tie.{the-claims as claims}
 
-pub qpel-requires : goal.qpel-requires
-qpel-requires c = fit (is-k* 4 (is_eq c.new.ensures (nat c.args.place))) (omega arith)
-
-pub moved-exact-requires : goal.moved-exact-requires
-moved-exact-requires c =
-    fit (is-+ (is_eq c.qpel.ensures (is-k* 4 (is_eq c.new.ensures (nat c.args.place)))) (arg c.ranges.mv)) (omega signed)
-
 exact : (c : place.After-qpel_gmv claims Pre Post) → let a = c.args in c.moved-exact.result.0 ≡ place_of a.place a.mv
 exact c =
     (simp (to_z-of_z c.fits.mv) at c.moved-exact.ensures) ∙ ap (λ (z : ℤ). z +ℤ c.args.mv) (c.qpel.ensures ∙ ap (λ (z : ℤ). pos 4 *ℤ z) c.new.ensures)

@@ -11,9 +11,9 @@ use Rattle.evc_clip.specs.Clip.{moved_component, moved_mv}
 use Rattle.evc_clip.proofs.moved_mv.Goals as goal
 use Rattle.evc_clip.proofs.moved_mv.Lts as place
 use Rattle.evc_clip.proofs.moved_mv.Reads.{Pre, Post}
-use Rattle.evc_clip.proofs.moved_mv.Tie.{the-claims as claims}
+use Rattle.evc_clip.proofs.moved_mv.Tie.{the-claims as claims, handed_clauses as clauses}
 
-fits : (s : place.Start claims Pre Post) → SFits w16 s.args.mv.x × SFits w16 s.args.mv.y
+fits : (s : place.Start claims Pre Post clauses) → SFits w16 s.args.mv.x × SFits w16 s.args.mv.y
 fits s = (search rules, search rules)
 
 -- the record that is made is the one that the definition names

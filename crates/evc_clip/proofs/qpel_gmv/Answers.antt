@@ -6,22 +6,12 @@ use lib.IntN.{ℤ, pos, ◌+ℤ◌, ◌*ℤ◌}
 use mir.Facts.{to_z-of_z}
 use Rattle.evc_int.specs.Whole.{−◌, clip3}
 use Rattle.evc_int.proofs.Whole.{is-+, is-k*, is_eq, nat}
-use Rattle.evc_int.proofs.Expressions.{◌⊕◌, ◌⊖◌, ◌⊗◌, solve}
+use Rattle.evc_int.proofs.Expressions.{ !, ◌⊕◌, ◌⊖◌, ◌⊗◌, solve}
 use Rattle.evc_int.proofs.Machine.{signed, arg, fit}
 use Rattle.evc_def.specs.Blocks.{Allowed}
 use Rattle.evc_clip.specs.Clip.{margin, place_of, clip_component}
 use Rattle.evc_clip.proofs.Laws.{last_place, clipped_place_lem}
 use Rattle.evc_clip.proofs.qpel_gmv.Goals as goal
-
-pub qpel-max_clip-requires : goal.qpel-max_clip-requires
-qpel-max_clip-requires c = fit (is-k* 4 (is_eq c.new.ensures (nat _))) (omega arith)
-
-pub qpel-requires : goal.qpel-requires
-qpel-requires c = fit (is-k* 4 (is_eq c.new-2.ensures (nat c.args.place))) (omega arith)
-
-pub moved-requires : goal.moved-requires
-moved-requires c =
-    fit (is-+ (is_eq c.qpel.ensures (is-k* 4 (is_eq c.new-2.ensures (nat c.args.place)))) (arg c.ranges.mv)) (omega signed)
 
 -- the clipped place, over plain numbers
 place : (W x w n : ℕ) (mv lo p q a m g : ℤ) → Allowed W x w → p ≡ pos x → a ≡ pos 4 *ℤ p → q ≡ pos n → n + w ≡ W + margin → m ≡ pos 4 *ℤ q → lo ≡ − 256 → g ≡ clip3 lo m (a +ℤ mv) → g ≡ place_of x (clip_component W x w mv)

@@ -55,11 +55,11 @@ overflow_sub-origin c = fit (is-- (nat 0) (uns (origin_fits c))) (omega arith)
 
 pub returns-then-start-origin : goal.returns-then-start-origin
 returns-then-start-origin c =
-    low _ _ _ (let h = lt_yes (arg (start_fits c.before)) (is_rd (overflow_sub-origin c) (is-- (nat 0) (uns (origin_fits c.before.before.before)))) c.if-start-origin.true in omega arith)
+    low _ _ _ (let h = lt_yes (arg (start_fits c.before)) (is_rd (overflow_sub-origin c.before.before.before) (is-- (nat 0) (uns (origin_fits c.before.before.before)))) c.if-start-origin.true in omega arith)
 
 above : (c : place.Else1 Pre Post) → c.args.start.0 ⁻ ≤ c.args.start.0 ⁺ + c.args.origin
 above c =
-    let h = lt_no (arg (start_fits c.before)) (is_rd (overflow_sub-origin c) (is-- (nat 0) (uns (origin_fits c.before.before.before)))) c.if-start-origin.false in omega arith
+    let h = lt_no (arg (start_fits c.before)) (is_rd (overflow_sub-origin c.before.before.before) (is-- (nat 0) (uns (origin_fits c.before.before.before)))) c.if-start-origin.false in omega arith
 
 pub returns-then-start-size : goal.returns-then-start-size
 returns-then-start-size c =
@@ -77,12 +77,6 @@ overflow_add-result-2 c =
     let a = above c.before.before.before.before.before in
     let b = below c.before.before in
     fit (sum c) (omega arith)
-
-pub overflow_cast-result-2 : goal.overflow_cast-result-2
-overflow_cast-result-2 c =
-    let a = above c.before.before.before.before.before in
-    let b = below c.before.before in
-    to_unsigned (is_rd (overflow_add-result-2 c) (sum c)) (omega arith)
 
 pub returns : goal.returns
 returns c =

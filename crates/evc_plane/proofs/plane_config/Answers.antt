@@ -28,9 +28,3 @@ overflow_add-result-3 c = let z = small c in omega arith
 
 pub overflow_mul-result : goal.overflow_mul-result
 overflow_mul-result c = let z = small c in omega arith
-
-pub overflow_add-result-4 : goal.overflow_add-result-4
-overflow_add-result-4 c = let z = small c in omega arith
-
-pub overflow_add-result-5 : goal.overflow_add-result-5
-overflow_add-result-5 c = let z = small c in omega arith
