@@ -19,7 +19,7 @@ use Rattle.evc_clip.proofs.moved_component.Tie.{the-claims as claims}
 
 exact : (c : place.After-qpel_gmv claims Pre Post) → let a = c.args in c.moved-exact.result.0 ≡ place_of a.place a.mv
 exact c =
-    (simp (to_z-of_z c.fits.mv) at c.moved-exact.ensures) ∙ ap (λ (z : ℤ). z +ℤ c.args.mv) (c.qpel.ensures ∙ ap (λ (z : ℤ). pos 4 *ℤ z) c.new.ensures)
+    (simp (to_z-of_z c.ranges.mv) at c.moved-exact.ensures) ∙ ap (λ (z : ℤ). z +ℤ c.args.mv) (c.qpel.ensures ∙ ap (λ (z : ℤ). pos 4 *ℤ z) c.new.ensures)
 
 clipped : (c : place.After-qpel_gmv claims Pre Post) → let a = c.args in c.qpel_gmv-gmv.result.0 ≡ place_of a.place (clip_component a.pic a.place a.side a.mv)
 clipped c = simp (to_z-of_z c.ranges.mv) at c.qpel_gmv-gmv.ensures

@@ -26,10 +26,10 @@ accepted : (c : goal.Else-code-ne0) → first_of (block_checks c.args.block) ≡
 accepted c = sym c.block_code-code.ensures ∙ c.if-code-ne0.false
 
 pub clip_mv-requires : goal.clip_mv-requires
-clip_mv-requires c = allowed_block _ (accepted c)
+clip_mv-requires c = let parts = allowed_block _ (accepted c) in record { allowed = parts.0; allowed_2 = parts.1 }
 
 pub moved_mv-requires : goal.moved_mv-requires
-moved_mv-requires c = allowed_block _ (accepted c.before)
+moved_mv-requires c = let parts = allowed_block _ (accepted c.before) in record { allowed = parts.0; allowed_2 = parts.1 }
 
 pub returns : goal.returns
 returns c = done _ _ _ _ (accepted c.before.before) c.clip_mv.ensures c.moved_mv.ensures

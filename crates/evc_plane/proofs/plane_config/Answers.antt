@@ -18,13 +18,17 @@ pub returns : goal.returns
 returns c = made _ _ _ _ _ _ _ c.xorigin-xorigin.ensures c.pad_size-pad.ensures c.side-width.ensures c.side-height.ensures
 
 pub overflow_add-result : goal.overflow_add-result
+unfolding config_of stride_of rows_of
 overflow_add-result c = let z = small c in omega arith
 
 pub overflow_add-result-2 : goal.overflow_add-result-2
+unfolding config_of stride_of rows_of
 overflow_add-result-2 c = let z = small c in omega arith
 
 pub overflow_add-result-3 : goal.overflow_add-result-3
+unfolding config_of stride_of rows_of
 overflow_add-result-3 c = let z = small c in omega arith
 
 pub overflow_mul-result : goal.overflow_mul-result
+unfolding config_of stride_of rows_of
 overflow_mul-result c = let z = small c in omega arith

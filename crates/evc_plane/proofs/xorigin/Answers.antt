@@ -1,12 +1,12 @@
 -- `evc_plane::xorigin` meets its contract. Assumes nothing.
-use mathlib.Core.Path.{sym, ap}
+use Rattle.std.proofs.Common.{refl}
 use Rattle.evc_plane.specs.Planes.{origin_of}
 use Rattle.evc_plane.proofs.xorigin.Goals as goal
 
 pub returns-in-Y : goal.returns-in-Y
 unfolding origin_of
-returns-in-Y c = sym (ap origin_of c.enum_told-1.given.1)
+returns-in-Y c = refl
 
 pub returns-in-UV : goal.returns-in-UV
 unfolding origin_of
-returns-in-UV c = sym (ap origin_of c.enum_told-in-UV-1.given.1)
+returns-in-UV c = refl
