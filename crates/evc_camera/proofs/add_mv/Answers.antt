@@ -47,7 +47,7 @@ pub returns : goal.returns
 returns c =
     let v = simp (to_z-of_z (x_fits c.before.before.before.before.before.before)) at c.component.ensures in
     let w = simp (to_z-of_z (y_fits c.before.before)) at c.component-2.ensures in
-    let x = simp (to_z-of_z (sum_fits c.args.s.x c.requires.across), res w16 {z = c.component.result} c.component.type-inv) at c.add.ensures in
-    let y = simp (to_z-of_z (sum_fits c.args.s.y c.requires.down), res w16 {z = c.component-2.result} c.component-2.type-inv) at c.add-2.ensures in
-    simp (res w64 {z = c.add.result} c.add.type-inv, res w64 {z = c.add-2.result} c.add-2.type-inv)
+    let x = simp (to_z-of_z (sum_fits c.args.s.x c.requires.across), res w16 {z = c.component.result} c.component.type_inv) at c.add.ensures in
+    let y = simp (to_z-of_z (sum_fits c.args.s.y c.requires.down), res w16 {z = c.component-2.result} c.component-2.type_inv) at c.add-2.ensures in
+    simp (res w64 {z = c.add.result} c.add.type_inv, res w64 {z = c.add-2.result} c.add-2.type_inv)
     (made c.args.s c.args.counted c.args.mv _ _ (x.0 ∙ ap (λ (t : ℤ). c.args.s.x +ℤ t) v) (y.0 ∙ ap (λ (t : ℤ). c.args.s.y +ℤ t) w), x.1, y.1)

@@ -18,7 +18,7 @@ pub mv_at-mv-requires : goal.mv_at-mv-requires
 mv_at-mv-requires c = (omega arith, omega arith)
 
 pub add_mv-sums-requires : goal.add_mv-sums-requires
-add_mv-sums-requires c = let l = c.loop-i in within_wider l.sums l.i most_units l.invariant.3 (omega arith)
+add_mv-sums-requires c = let l = c.loop in within_wider l.sums l.i most_units l.invariant.3 (omega arith)
 
 pub overflow_step-i : goal.overflow_step-i
 overflow_step-i c = record { fits = omega arith }
@@ -28,7 +28,7 @@ loop-i-smaller c = omega arith
 
 pub loop-i-preserved : goal.loop-i-preserved
 loop-i-preserved c =
-    let l = c.loop-i in
+    let l = c.loop in
     let all = c.requires.s_value.2 in
     let e = c.add_mv-sums.ensures in (
       omega arith,
@@ -39,7 +39,7 @@ loop-i-preserved c =
 
 pub returns : goal.returns
 returns c =
-    let l = c.loop-i in
+    let l = c.loop in
     let e : l.i ≡ c.args.to = omega arith in
     (l.invariant.2 ∙ ap (sums_of _ _) e, subst (Within l.sums) e l.invariant.3)
 

@@ -33,7 +33,7 @@ one_more words from k all this h e t i l u =
 pub loop-i-preserved : goal.loop-i-preserved
 loop-i-preserved c =
     let z = c.args in
-    (omega arith, omega arith, one_more z.map-scu.now _ _ _ _ c.loop-i.invariant.2 (counted_at z.map-scu.now _ _ _ c.mcu_at.ensures c.IS_COD_NIF-all.ensures))
+    (omega arith, omega arith, one_more z.map_scu.now _ _ _ _ c.loop-i.invariant.2 (counted_at z.map_scu.now _ _ _ c.mcu_at.ensures c.IS_COD_NIF-all.ensures))
 
 pub returns : goal.returns
 returns c e i l u = c.loop-i.invariant.2 e i l (omega arith)

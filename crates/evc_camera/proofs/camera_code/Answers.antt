@@ -14,7 +14,7 @@ good : (c : goal.Else-bad_picture) → bad_picture c.args.pic_w c.args.pic_h ≡
 good c = sym c.bad_picture.ensures ∙ c.if-bad_picture.false
 
 -- the test of the code is that of the definition
-short_is : (c : place.After-words_short claims Pre Post) → let a = c.args in (map_short a.pic-w a.pic-h a.map-mv || words_short a.pic-w a.pic-h a.map-scu) ≡ (c.map_short.result || c.words_short.result)
+short_is : (c : place.After-words_short claims Pre Post) → let a = c.args in (map_short a.pic_w a.pic_h a.map_mv || words_short a.pic_w a.pic_h a.map_scu) ≡ (c.map_short.result || c.words_short.result)
 short_is c = ap₂ ◌||◌ (sym c.map_short.ensures) (sym c.words_short.ensures)
 
 pub returns-then-bad_picture : goal.returns-then-bad_picture

@@ -40,7 +40,7 @@ few r u n e h = rw e h
 pub returns-then-code-ne0 : goal.returns-then-code-ne0
 returns-then-code-ne0 c =
     let z = c.args in
-    refusal z.pic-w z.pic-h z.map-mv.now z.map-scu.now _ _ c.camera_code-code.ensures c.if-code-ne0.true c.answer.ensures
+    refusal z.pic_w z.pic_h z.map_mv.now z.map_scu.now _ _ c.camera_code-code.ensures c.if-code-ne0.true c.answer.ensures
 
 pub unit_count-units-requires : goal.unit_count-units-requires
 unit_count-units-requires c = let k = covered _ _ _ _ (accepted_call c.before) in (k.across, k.down)
@@ -55,7 +55,7 @@ sum_units-s-requires c =
 pub returns : goal.returns
 returns c =
     let z = c.args in
-    done z.pic-w z.pic-h z.map-mv.now z.map-scu.now _ _ _ _ (accepted_call c.before.before.before.before.before.before) (c.index.ensures ∙ c.unit_count-units.ensures.0) c.sum_units-s.ensures.0 c.motion_of.ensures c.answer-2.ensures
+    done z.pic_w z.pic_h z.map_mv.now z.map_scu.now _ _ _ _ (accepted_call c.before.before.before.before.before.before) (c.index.ensures ∙ c.unit_count-units.ensures.0) c.sum_units-s.ensures.0 c.motion_of.ensures c.answer-2.ensures
 
 pub camera_code-code-requires : goal.camera_code-code-requires
 camera_code-code-requires c = tt

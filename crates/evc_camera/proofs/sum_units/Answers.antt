@@ -20,7 +20,7 @@ pub overflow_mul-k : goal.overflow_mul-k
 overflow_mul-k c = record { fits = omega arith }
 
 pub add_run-s-requires : goal.add_run-s-requires
-add_run-s-requires c = let l = c.loop-k in record { from_bound = (omega arith, omega arith, omega arith); s_value = (l.invariant.1, l.invariant.2) }
+add_run-s-requires c = let l = c.loop in record { from_bound = (omega arith, omega arith, omega arith); s_value = (l.invariant.1, l.invariant.2) }
 
 pub overflow_step-k : goal.overflow_step-k
 overflow_step-k c = record { fits = omega arith }
@@ -47,7 +47,7 @@ not_all t = subst T (sym t) tt
 
 pub add_units-requires : goal.add_units-requires
 add_units-requires c =
-    let l = c.loop-k in
+    let l = c.loop in
     let last : l.k ≡ c.args.units / 16 = omega arith in
     let e = ended _ _ _ _ _ last (l.invariant.1, l.invariant.2) in record { from_le_to = (omega arith, omega arith, omega arith, omega arith); s_value = (e.0, e.1, λ t. absurd (not_all t)) }
 

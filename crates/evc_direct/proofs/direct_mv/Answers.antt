@@ -8,18 +8,18 @@ use Rattle.evc_direct.proofs.direct_mv.Goals as goal
 pub unit_at-scup-requires : goal.unit_at-scup-requires
 unit_at-scup-requires c =
     let a = c.args in
-    let k = block_good a.block a.pocs a.has-col a.col-mv.now c.requires in
+    let k = block_good a.block a.pocs a.has_col a.col_mv.now c.requires in
     (k.0.size_high, omega arith, omega arith)
 
 pub collocated_mv-mv-requires : goal.collocated_mv-mv-requires
 collocated_mv-mv-requires c =
     let a = c.args in
-    rw c.unit_at-scup.ensures (map_good a.block a.pocs a.has-col a.col-mv.now c.requires)
+    rw c.unit_at-scup.ensures (map_good a.block a.pocs a.has_col a.col_mv.now c.requires)
 
 pub direct_vectors-requires : goal.direct_vectors-requires
 direct_vectors-requires c =
     let a = c.args in
-    counts_good a.block a.pocs a.has-col a.col-mv.now c.requires
+    counts_good a.block a.pocs a.has_col a.col_mv.now c.requires
 
 pub returns : goal.returns
 returns c =

@@ -8,7 +8,7 @@ use mir.Syntax.{w32}
 use mir.Val.{to_z, of_z}
 use Rattle.evc_int.specs.LowBits.{low16}
 use Rattle.evc_int.proofs.Whole.{is--, is_eq, nat, abs_of}
-use Rattle.evc_int.proofs.Expressions.{◌⊖◌, neg, solve}
+use Rattle.evc_int.proofs.Expressions.{ !, ◌⊖◌, neg, solve}
 use Rattle.evc_int.proofs.Machine.{res}
 use Rattle.evc_def.specs.Blocks.{max_poc}
 use Rattle.evc_def.specs.declared.EvcMv.{EvcMv}
@@ -48,22 +48,22 @@ pub returns-then-p : goal.returns-then-p
 returns-then-p c = none _ _ c.if-p.true
 
 co_apart : (k : goal.After-dpoc-dpoc_co) → 0 < nat_abs (to_z w32 (of_z w32 k.dpoc-dpoc_co.result))
-co_apart k = apart _ _ _ _ k.if-p.false k.dpoc-dpoc_co.ensures.0 (res w32 k.dpoc-dpoc_co.type-inv)
+co_apart k = apart _ _ _ _ k.if-p.false k.dpoc-dpoc_co.ensures.0 (res w32 k.dpoc-dpoc_co.type_inv)
 
 co_small : (k : goal.After-dpoc-dpoc_co) → nat_abs (to_z w32 (of_z w32 k.dpoc-dpoc_co.result)) ≤ max_poc
-co_small k = small k.dpoc-dpoc_co.result _ (res w32 k.dpoc-dpoc_co.type-inv) k.dpoc-dpoc_co.ensures.1
+co_small k = small k.dpoc-dpoc_co.result _ (res w32 k.dpoc-dpoc_co.type_inv) k.dpoc-dpoc_co.ensures.1
 
 pub scaled_mv-requires : goal.scaled_mv-requires
 scaled_mv-requires c =
-    (small c.dpoc.result _ (res w32 c.dpoc.type-inv) c.dpoc.ensures.1, co_apart c.before, co_small c.before)
+    (small c.dpoc.result _ (res w32 c.dpoc.type_inv) c.dpoc.ensures.1, co_apart c.before, co_small c.before)
 
 pub scaled_mv-requires-2 : goal.scaled_mv-requires-2
 scaled_mv-requires-2 c =
-    (small c.dpoc-2.result _ (res w32 c.dpoc-2.type-inv) c.dpoc-2.ensures.1, co_apart c.before.before.before, co_small c.before.before.before)
+    (small c.dpoc-2.result _ (res w32 c.dpoc-2.type_inv) c.dpoc-2.ensures.1, co_apart c.before.before.before, co_small c.before.before.before)
 
 pub returns : goal.returns
 returns c =
-    let co : to_z w32 (of_z w32 c.dpoc-dpoc_co.result) ≡ dpoc_co c.args.p = res w32 c.dpoc-dpoc_co.type-inv ∙ c.dpoc-dpoc_co.ensures.0 in
+    let co : to_z w32 (of_z w32 c.dpoc-dpoc_co.result) ≡ dpoc_co c.args.p = res w32 c.dpoc-dpoc_co.type_inv ∙ c.dpoc-dpoc_co.ensures.0 in
     both c.args.p c.args.mv _ _ c.if-p.false
-    (c.scaled_mv.ensures ∙ ap₂ (λ (a b : ℤ). scaled_by a b c.args.mv) (res w32 c.dpoc.type-inv ∙ c.dpoc.ensures.0) co)
-    (c.scaled_mv-2.ensures ∙ ap₂ (λ (a b : ℤ). scaled_by a b c.args.mv) (res w32 c.dpoc-2.type-inv ∙ c.dpoc-2.ensures.0 ∙ turned c.args.p c.args.mv) co)
+    (c.scaled_mv.ensures ∙ ap₂ (λ (a b : ℤ). scaled_by a b c.args.mv) (res w32 c.dpoc.type_inv ∙ c.dpoc.ensures.0) co)
+    (c.scaled_mv-2.ensures ∙ ap₂ (λ (a b : ℤ). scaled_by a b c.args.mv) (res w32 c.dpoc-2.type_inv ∙ c.dpoc-2.ensures.0 ∙ turned c.args.p c.args.mv) co)

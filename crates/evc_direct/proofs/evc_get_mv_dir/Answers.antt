@@ -9,9 +9,9 @@ direct_mv-direct-requires c = sym c.direct_code-code.ensures ∙ c.if-code-eq0.t
 pub returns-then-code-eq0 : goal.returns-then-code-eq0
 returns-then-code-eq0 c =
     let a = c.args in
-    done a.block a.pocs a.has-col a.col-mv.now _ (sym c.direct_code-code.ensures ∙ c.if-code-eq0.true) c.direct_mv-direct.ensures
+    done a.block a.pocs a.has_col a.col_mv.now _ (sym c.direct_code-code.ensures ∙ c.if-code-eq0.true) c.direct_mv-direct.ensures
 
 pub returns-else-code-eq0 : goal.returns-else-code-eq0
 returns-else-code-eq0 c =
     let a = c.args in
-    refusal a.block a.pocs a.has-col a.col-mv.now _ c.direct_code-code.ensures c.if-code-eq0.false
+    refusal a.block a.pocs a.has_col a.col_mv.now _ c.direct_code-code.ensures c.if-code-eq0.false

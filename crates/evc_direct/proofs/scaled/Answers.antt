@@ -35,5 +35,5 @@ nonzero_div-dpoc c = (
 
 pub returns : goal.returns
 returns c =
-    res w16 c.low16.type-inv
+    res w16 c.low16.type_inv
     ∙ simp (to_z-of_z c.ranges.v, to_z-of_z c.ranges.dpoc, to_z-of_z c.ranges.dpoc_co, to_z-of_z (v_fits c.before), to_z-of_z (product_fits c.before), to_z-of_z (quotient_fits c.before)) at c.low16.ensures

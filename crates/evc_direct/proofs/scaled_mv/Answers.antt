@@ -32,8 +32,8 @@ made dpoc co mv x y p q = rw (p, q)
 pub returns : goal.returns
 returns c =
     made c.args.dpoc c.args.dpoc_co c.args.mv _ _
-    (res w16 c.scaled.type-inv ∙ (simp (to_z-of_z (x_fits c.before.before.before), to_z-of_z c.ranges.dpoc, to_z-of_z c.ranges.dpoc_co) at c.scaled.ensures))
-    (res w16 c.scaled-2.type-inv ∙ (simp (to_z-of_z (y_fits c.before), to_z-of_z c.ranges.dpoc, to_z-of_z c.ranges.dpoc_co) at c.scaled-2.ensures))
+    (res w16 c.scaled.type_inv ∙ (simp (to_z-of_z (x_fits c.before.before.before), to_z-of_z c.ranges.dpoc, to_z-of_z c.ranges.dpoc_co) at c.scaled.ensures))
+    (res w16 c.scaled-2.type_inv ∙ (simp (to_z-of_z (y_fits c.before), to_z-of_z c.ranges.dpoc, to_z-of_z c.ranges.dpoc_co) at c.scaled-2.ensures))
 
 pub scaled-requires : goal.scaled-requires
 scaled-requires c = bounds c.before.before

@@ -22,6 +22,6 @@ loop-i-preserved c = omega arith
 
 pub returns : goal.returns
 returns c =
-    let l = c.loop-i in
+    let l = c.loop in
     let e : l.i ≡ c.args.n = omega (arith, c.loop-i-test.false) in
     l.invariant.1 ∙ ap (λ (i : ℕ). i * c.args.x) e

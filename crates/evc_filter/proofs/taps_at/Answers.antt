@@ -18,43 +18,55 @@ above n m l d = omega arith
 
 last_row : (c : goal.After-sizes-in_default) → c.args.row ≡ 11
 last_row c =
-    let r = c.in_default.rest in
+    let r = c.match.rest in
     let n = c.args.row in
     let a = above n 10 (above n 9 (above n 8 (above n 7 (above n 6 (above n 5 (above n 4 (above n 3 (above n 2 (above n 1 (above n 0 (omega arith) r.0.0.0.0.0.0.0.0.0.0.1) r.0.0.0.0.0.0.0.0.0.1) r.0.0.0.0.0.0.0.0.1) r.0.0.0.0.0.0.0.1) r.0.0.0.0.0.0.1) r.0.0.0.0.0.1) r.0.0.0.0.1) r.0.0.0.1) r.0.0.1) r.0.1) r.1 in
     omega (arith, a, c.requires)
 
 pub returns-in-0 : goal.returns-in-0
-returns-in-0 c = c.sizes.ensures ∙ sym (ap row_taps c.in_default.keys1)
+unfolding taps_of
+returns-in-0 c = c.sizes.ensures ∙ sym (ap row_taps c.match.keys1)
 
 pub returns-in-1 : goal.returns-in-1
-returns-in-1 c = c.sizes-in-1.ensures ∙ sym (ap row_taps c.in_default.keys2)
+unfolding taps_of
+returns-in-1 c = c.sizes-in-1.ensures ∙ sym (ap row_taps c.match.keys2)
 
 pub returns-in-2 : goal.returns-in-2
-returns-in-2 c = c.sizes-in-2.ensures ∙ sym (ap row_taps c.in_default.keys3)
+unfolding taps_of
+returns-in-2 c = c.sizes-in-2.ensures ∙ sym (ap row_taps c.match.keys3)
 
 pub returns-in-3 : goal.returns-in-3
-returns-in-3 c = c.sizes-in-3.ensures ∙ sym (ap row_taps c.in_default.keys4)
+unfolding taps_of
+returns-in-3 c = c.sizes-in-3.ensures ∙ sym (ap row_taps c.match.keys4)
 
 pub returns-in-4 : goal.returns-in-4
-returns-in-4 c = c.sizes-in-4.ensures ∙ sym (ap row_taps c.in_default.keys5)
+unfolding taps_of
+returns-in-4 c = c.sizes-in-4.ensures ∙ sym (ap row_taps c.match.keys5)
 
 pub returns-in-5 : goal.returns-in-5
-returns-in-5 c = c.sizes-in-5.ensures ∙ sym (ap row_taps c.in_default.keys6)
+unfolding taps_of
+returns-in-5 c = c.sizes-in-5.ensures ∙ sym (ap row_taps c.match.keys6)
 
 pub returns-in-6 : goal.returns-in-6
-returns-in-6 c = c.sizes-in-6.ensures ∙ sym (ap row_taps c.in_default.keys7)
+unfolding taps_of
+returns-in-6 c = c.sizes-in-6.ensures ∙ sym (ap row_taps c.match.keys7)
 
 pub returns-in-7 : goal.returns-in-7
-returns-in-7 c = c.sizes-in-7.ensures ∙ sym (ap row_taps c.in_default.keys8)
+unfolding taps_of
+returns-in-7 c = c.sizes-in-7.ensures ∙ sym (ap row_taps c.match.keys8)
 
 pub returns-in-8 : goal.returns-in-8
-returns-in-8 c = c.sizes-in-8.ensures ∙ sym (ap row_taps c.in_default.keys9)
+unfolding taps_of
+returns-in-8 c = c.sizes-in-8.ensures ∙ sym (ap row_taps c.match.keys9)
 
 pub returns-in-9 : goal.returns-in-9
-returns-in-9 c = c.sizes-in-9.ensures ∙ sym (ap row_taps c.in_default.keys10)
+unfolding taps_of
+returns-in-9 c = c.sizes-in-9.ensures ∙ sym (ap row_taps c.match.keys10)
 
 pub returns-in-10 : goal.returns-in-10
-returns-in-10 c = c.sizes-in-10.ensures ∙ sym (ap row_taps c.in_default.keys11)
+unfolding taps_of
+returns-in-10 c = c.sizes-in-10.ensures ∙ sym (ap row_taps c.match.keys11)
 
 pub returns-in_default : goal.returns-in_default
+unfolding taps_of
 returns-in_default c = c.sizes-in_default.ensures ∙ sym (ap row_taps (last_row c))

@@ -18,7 +18,7 @@ use Rattle.evc_motion.proofs.Reach.{map_reaches, col_reaches, left_before, up_be
 use Rattle.evc_motion.proofs.candidates.Goals as goal
 use Rattle.evc_motion.proofs.candidates.Lts as place
 use Rattle.evc_motion.proofs.candidates.Reads.{Pre, Post}
-use Rattle.evc_motion.proofs.candidates.Tie.{the-claims as claims}
+use Rattle.evc_motion.proofs.candidates.Tie.{the-claims as claims, handed_clauses as clauses}
 
 module _ (b : EvcBlock) (lidx avail : ℕ) (map : List ℤ) where
   left_is : (flagged : Bool) (first : ℕ) (mv : EvcMv) → flagged ≡ is_bit 1 avail → first ≡ scup b → mv ≡ neighbour map lidx flagged (first - 1) → mv ≡ neighbour map lidx (is_bit 1 avail) (scup b - 1)
@@ -73,7 +73,7 @@ mv_at-cand-requires c =
     (omega arith, col_reaches c.args.b _ _ _ c.requires.lidx_bound.1 _ (inside c.before.before.before.before.before.before.before.before.before.before.before.before) c.if-has_col.true)
 
 -- the three neighbours, with any fourth that is the collocated one
-with_fourth : (r : place.After-neighbour_mv3 claims Pre Post) (mv : EvcMv) → let a = (first r).before.args in mv ≡ cond a.has-col (mv_at a.col-mv.now (scup a.b) 0) a.old.collocated → record { left = r.before.before.before.before.before.before.neighbour_mv-left.result; up = r.before.before.before.before.neighbour_mv-up.result; up_right = r.neighbour_mv-up_right.result; collocated = mv; refi = pos 0 ∷ pos 0 ∷ pos 0 ∷ pos 0 ∷ [] } ≡ candidates a.b a.lidx a.avail a.map-mv.now a.has-col a.col-mv.now a.old
+with_fourth : (r : place.After-neighbour_mv3 claims Pre Post clauses) (mv : EvcMv) → let a = (first r).before.args in mv ≡ cond a.has_col (mv_at a.col_mv.now (scup a.b) 0) a.old.collocated → record { left = r.before.before.before.before.before.before.neighbour_mv-left.result; up = r.before.before.before.before.neighbour_mv-up.result; up_right = r.neighbour_mv-up_right.result; collocated = mv; refi = pos 0 ∷ pos 0 ∷ pos 0 ∷ pos 0 ∷ [] } ≡ candidates a.b a.lidx a.avail a.map_mv.now a.has_col a.col_mv.now a.old
 with_fourth r mv q =
     let g = r.before.before.before in
     let u = g.before in
@@ -83,10 +83,10 @@ with_fourth r mv q =
     let k = w.before in
     let a = k.before.args in
     let e = k.unit_at-scup.ensures in
-    made a.b a.lidx a.avail a.map-mv.now a.has-col a.col-mv.now a.old _ _ _ _
-    (left_is a.b a.lidx a.avail a.map-mv.now _ _ _ l.before.GET_AVAIL_FLAG.ensures e l.neighbour_mv-left.ensures)
-    (up_is a.b a.lidx a.avail a.map-mv.now _ _ _ _ u.before.GET_AVAIL_FLAG-2.ensures e w.scu-w_scu.ensures u.neighbour_mv-up.ensures)
-    (up_right_is a.b a.lidx a.avail a.map-mv.now k.before.requires.allowed.0 (up_right_before _ _ k.before.requires.allowed.0 k.before.requires.allowed.1 k.before.requires.lidx_bound.2) _ _ _ _ _ g.GET_AVAIL_FLAG-3.ensures e w.scu-w_scu.ensures s.scu-scuw.ensures r.neighbour_mv-up_right.ensures)
+    made a.b a.lidx a.avail a.map_mv.now a.has_col a.col_mv.now a.old _ _ _ _
+    (left_is a.b a.lidx a.avail a.map_mv.now _ _ _ l.before.GET_AVAIL_FLAG.ensures e l.neighbour_mv-left.ensures)
+    (up_is a.b a.lidx a.avail a.map_mv.now _ _ _ _ u.before.GET_AVAIL_FLAG-2.ensures e w.scu-w_scu.ensures u.neighbour_mv-up.ensures)
+    (up_right_is a.b a.lidx a.avail a.map_mv.now k.before.requires.allowed.0 (up_right_before _ _ k.before.requires.allowed.0 k.before.requires.allowed.1 k.before.requires.lidx_bound.2) _ _ _ _ _ g.GET_AVAIL_FLAG-3.ensures e w.scu-w_scu.ensures s.scu-scuw.ensures r.neighbour_mv-up_right.ensures)
     q
 
 pub returns-then-has_col : goal.returns-then-has_col

@@ -36,17 +36,16 @@ module _ (b : EvcBlock) (lidx avail : ℕ) (map : List ℤ) (has : Bool) (col : 
 pub returns-then-code-ne0 : goal.returns-then-code-ne0
 returns-then-code-ne0 c =
     let a = c.args in
-    refusal a.block a.lidx a.avail a.map-mv.now a.has-col a.col-mv.now a.old _ c.motion_code-code.ensures c.if-code-ne0.true
+    refusal a.block a.lidx a.avail a.map_mv.now a.has_col a.col_mv.now a.old _ c.motion_code-code.ensures c.if-code-ne0.true
 
-accepted_call : (c : goal.Else-code-ne0) → let a = c.args in first_of (motion_checks a.block a.lidx a.avail (length a.map-mv.now) a.has-col (length a.col-mv.now)) ≡ 0
+accepted_call : (c : goal.Else-code-ne0) → let a = c.args in first_of (motion_checks a.block a.lidx a.avail (length a.map_mv.now) a.has_col (length a.col_mv.now)) ≡ 0
 accepted_call c = sym c.motion_code-code.ensures ∙ c.if-code-ne0.false
 
 pub candidates-requires : goal.candidates-requires
 candidates-requires c =
-    let a = c.args in
-    passes a.block a.lidx a.avail a.map-mv.now a.has-col a.col-mv.now (accepted_call c)
+    let a = c.args in let parts = passes a.block a.lidx a.avail a.map_mv.now a.has_col a.col_mv.now (accepted_call c) in record { allowed = parts.0; lidx_bound = parts.1 }
 
 pub returns : goal.returns
 returns c =
     let a = c.args in
-    done a.block a.lidx a.avail a.map-mv.now a.has-col a.col-mv.now a.old _ (accepted_call c.before) c.candidates.ensures
+    done a.block a.lidx a.avail a.map_mv.now a.has_col a.col_mv.now a.old _ (accepted_call c.before) c.candidates.ensures

@@ -8,12 +8,12 @@ use Rattle.evc_paths.proofs.Paths.{Lanes, lanes, lanes_rows, lanes_room, first_a
 use Rattle.evc_paths.proofs.columns.Goals as goal
 use Rattle.evc_paths.proofs.columns.Lts as place
 use Rattle.evc_paths.proofs.columns.Reads.{Pre, Post}
-use Rattle.evc_paths.proofs.columns.Tie.{the-claims as claims}
+use Rattle.evc_paths.proofs.columns.Tie.{the-claims as claims, handed_clauses as clauses}
 
-count : (s : place.Start claims Pre Post) → s.args.h * s.args.n ≤ 512
+count : (s : place.Start claims Pre Post clauses) → s.args.h * s.args.n ≤ 512
 count s = let p = s.requires.n_value in mul-le-mul p.3 p.1
 
-rows : (s : place.Start claims Pre Post) → Lanes s.args.n s.args.h
+rows : (s : place.Start claims Pre Post clauses) → Lanes s.args.n s.args.h
 rows s = let p = s.requires.n_value in lanes s.args.n s.args.h p.0 p.1 p.2
 
 pub first_block-requires : goal.first_block-requires
@@ -24,7 +24,7 @@ first_block-requires c =
     (first_asks a.t a.s.now a.m.now a.at a.stride a.n a.h a.dx p.4 c.requires.w_value.1 p.1 p.6 _ _ c.rows_more.ensures c.unit-one.ensures
     c.requires.t_in_bounds.0 p.0)
 
-some_lanes : (c : place.After-select claims Pre Post) → 0 < c.select-lanes.result
+some_lanes : (c : place.After-select claims Pre Post clauses) → 0 < c.select-lanes.result
 some_lanes c = ⊎_elim (λ e. omega (arith, e, c.select-lanes.ensures)) (λ e. omega (arith, e, c.select-lanes.ensures)) (rows c.before.before.before.before.before.before.before.before.before.before.before.before).four_or_eight
 
 pub second_block-requires : goal.second_block-requires

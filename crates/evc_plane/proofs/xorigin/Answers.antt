@@ -1,12 +1,12 @@
 -- `evc_plane::xorigin` meets its contract. Assumes nothing.
-use Rattle.std.proofs.Common.{refl}
+use mathlib.Core.Path.{sym, ap}
 use Rattle.evc_plane.specs.Planes.{origin_of}
 use Rattle.evc_plane.proofs.xorigin.Goals as goal
 
 pub returns-in-Y : goal.returns-in-Y
 unfolding origin_of
-returns-in-Y c = refl
+returns-in-Y c = sym (ap origin_of c.in-Y.is)
 
 pub returns-in-UV : goal.returns-in-UV
 unfolding origin_of
-returns-in-UV c = refl
+returns-in-UV c = sym (ap origin_of c.in-UV.is)

@@ -11,12 +11,12 @@ loop-x-init c = (omega arith, row_none _ _)
 
 pub loop-x-preserved : goal.loop-x-preserved
 loop-x-preserved c =
-    let i = c.loop-x in
+    let i = c.loop in
     (omega arith, row_more _ _ _ _ _ i.invariant.1 (rw (zero-add i.x) c.gather-o.ensures))
 
 pub returns : goal.returns
 returns c =
-    let i = c.loop-x in
+    let i = c.loop in
     let z = c.args in
     let e : i.x ≡ z.n = omega arith in
     i.invariant.1 ∙ ap (row_exceeds z.row.now 0) e

@@ -16,14 +16,14 @@ use Rattle.evc_samples.proofs.or_rows4.Tie.{the-claims as claims}
 pub loop-y-init : goal.loop-y-init
 loop-y-init c = (omega arith, none4 ∙ rows_none _ _ _ _)
 
-room : (c : place.In-loop claims Pre Post goal.the-invariant-loop-y goal.the-decreases-loop-y) → c.loop-y.y * c.args.stride + c.args.stride ≤ c.args.h * c.args.stride
+room : (c : place.In-loop claims Pre Post goal.the-invariant-loop-y goal.the-decreases-loop-y) → c.loop.y * c.args.stride + c.args.stride ≤ c.args.h * c.args.stride
 room c = row_fits _ c.loop-y-test.true
 
 pub loop-y-preserved : goal.loop-y-preserved
 loop-y-preserved c =
     let z = c.args in
-    let y = c.loop-y.y in
-    let o = c.loop-y.o in
+    let y = c.loop.y in
+    let o = c.loop.o in
     let row = z.at + y * z.stride in (
       omega arith,
       rows_more z.s.now z.at z.stride z.n y (exceeds4 o) (row_exceeds z.s.now row z.n) _ c.loop-y.invariant.1 refl
@@ -33,7 +33,7 @@ loop-y-preserved c =
 pub returns : goal.returns
 unfolding exceeds4
 returns c =
-    let i = c.loop-y in
+    let i = c.loop in
     let z = c.args in
     let l = i.o in
     let e : i.y ≡ z.h = omega arith in

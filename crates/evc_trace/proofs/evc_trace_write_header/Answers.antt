@@ -15,7 +15,7 @@ use Rattle.evc_trace.proofs.Written.{kept, wrote}
 use Rattle.evc_trace.proofs.evc_trace_write_header.Goals as goal
 use Rattle.evc_trace.proofs.evc_trace_write_header.Lts as place
 use Rattle.evc_trace.proofs.evc_trace_write_header.Reads.{Pre, Post}
-use Rattle.evc_trace.proofs.evc_trace_write_header.Tie.{the-claims as claims}
+use Rattle.evc_trace.proofs.evc_trace_write_header.Tie.{the-claims as claims, handed_clauses as clauses}
 
 module _ (W H : ℕ) (d : List ℕ) where
   code_1 : bad_picture W H ≡ true → 1 ≡ write_header_code W H d
@@ -30,7 +30,7 @@ module _ (W H : ℕ) (d : List ℕ) where
   unfolding write_header_code
   code_0 e l = sym (passed _ _ _ e ∙ passed _ _ _ (le-ltb _ _ l) ∙ none)
 
-good : (c : place.Else1 claims Pre Post) → bad_picture c.args.pic_w c.args.pic_h ≡ false
+good : (c : place.Else1 claims Pre Post clauses) → bad_picture c.args.pic_w c.args.pic_h ≡ false
 good c = sym c.bad_picture.ensures ∙ c.if-bad_picture.false
 
 pub bad_picture-requires : goal.bad_picture-requires

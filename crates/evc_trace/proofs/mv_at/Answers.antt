@@ -20,4 +20,4 @@ pub i16_at-requires-2 : goal.i16_at-requires-2
 i16_at-requires-2 c = search rules
 
 pub returns : goal.returns
-returns c = both _ _ _ _ (res w16 c.i16_at.type-inv ∙ c.i16_at.ensures) (res w16 c.i16_at-2.type-inv ∙ c.i16_at-2.ensures)
+returns c = both _ _ _ _ (res w16 c.i16_at.type_inv ∙ c.i16_at.ensures) (res w16 c.i16_at-2.type_inv ∙ c.i16_at-2.ensures)
