@@ -21,13 +21,6 @@ use Rattle.evc_camera.proofs.add_mv.Lts as place
 use Rattle.evc_camera.proofs.add_mv.Reads.{Pre, Post}
 use Rattle.evc_camera.proofs.add_mv.Tie.{the-claims as claims}
 
-pub overflow_add-result : goal.overflow_add-result
-overflow_add-result c = record { fits = low c.args.counted c.args.s.units c.requires.few }
-  where
-    low : (b : Bool) (n : ℕ) → n ≤ most_units → n + bool_byte b < 2 ^ 64
-    low true n h = omega arith
-    low false n h = omega arith
-
 x_fits : (c : place.After-component claims Pre Post) → SFits w16 c.args.mv.x
 x_fits c = search rules
 

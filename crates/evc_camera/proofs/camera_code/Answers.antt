@@ -10,7 +10,7 @@ use Rattle.evc_camera.proofs.camera_code.Lts as place
 use Rattle.evc_camera.proofs.camera_code.Reads.{Pre, Post}
 use Rattle.evc_camera.proofs.camera_code.Tie.{the-claims as claims}
 
-good : (c : goal.Else-bad_picture) → bad_picture c.args.pic_w c.args.pic_h ≡ false
+good : (c : place.Else1 claims Pre Post) → bad_picture c.args.pic_w c.args.pic_h ≡ false
 good c = sym c.bad_picture.ensures ∙ c.if-bad_picture.false
 
 -- the test of the code is that of the definition

@@ -56,18 +56,3 @@ pub returns : goal.returns
 returns c =
     let z = c.args in
     done z.pic_w z.pic_h z.map_mv.now z.map_scu.now _ _ _ _ (accepted_call c.before.before.before.before.before.before) (c.index.ensures ∙ c.unit_count-units.ensures.0) c.sum_units-s.ensures.0 c.motion_of.ensures c.answer-2.ensures
-
-pub camera_code-code-requires : goal.camera_code-code-requires
-camera_code-code-requires c = tt
-
-pub answer-requires : goal.answer-requires
-answer-requires c = tt
-
-pub index-requires : goal.index-requires
-index-requires c = tt
-
-pub motion_of-requires : goal.motion_of-requires
-motion_of-requires c = c.sum_units-s.ensures.1
-
-pub answer-requires-2 : goal.answer-requires-2
-answer-requires-2 c = tt

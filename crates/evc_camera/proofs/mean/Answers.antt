@@ -11,21 +11,6 @@ use Rattle.evc_map.specs.Maps.{most_units}
 use Rattle.evc_camera.proofs.Once.{once}
 use Rattle.evc_camera.proofs.mean.Goals as goal
 
--- f64 holds each whole number up to 2 ^ 53
-holds : (z : ℤ) → nat_abs z ≤ 2 ^ 53 → T (in_float binary64 z)
-unfolding in_float
-holds (pos n) h = le→leb n _ h
-holds (negsuc n) h = lt→ltb n _ h
-
-pub int_to_float-result : goal.int_to_float-result
-int_to_float-result c = simp (to_z-of_z c.ranges.sum) (holds c.args.sum (omega arith))
-
-few_times : (k n : ℕ) → k ≤ 4 → n ≤ most_units → T (in_float binary64 (pos (k * n)))
-few_times k n h l = holds (pos (k * n)) (le_trans (mul-le-mul h l) (omega arith))
-
-pub int_to_float-result-2 : goal.int_to_float-result-2
-int_to_float-result-2 c = few_times _ _ (omega arith) c.requires.2
-
 size : (z : ℤ) → nat_abs z ≤ 32768 * most_units → mag z < 2 ^ 53
 size (pos n) h = omega arith
 size (negsuc n) h = omega arith

@@ -10,14 +10,14 @@ use Rattle.evc_direct.proofs.direct_code.Lts as place
 use Rattle.evc_direct.proofs.direct_code.Reads.{Pre, Post}
 use Rattle.evc_direct.proofs.direct_code.Tie.{the-claims as claims}
 
-block_good : (c : goal.Else-code-ne0) → first_of (block_checks c.args.b) ≡ 0
+block_good : (c : place.Else1 claims Pre Post) → first_of (block_checks c.args.b) ≡ 0
 block_good c = sym c.block_code-code.ensures ∙ c.if-code-ne0.false
 
 -- the test of the code is that of the definition
 map_test : (c : place.After-map_short claims Pre Post) → let a = c.args in (a.has_col && c.map_short.result) ≡ (a.has_col && map_short a.b.pic_w a.b.pic_h a.col_mv)
 map_test c = ap (λ (t : Bool). c.args.has_col && t) c.map_short.ensures
 
-map_good : (c : goal.Else-has_col-map_short) → let a = c.args in (a.has_col && map_short a.b.pic_w a.b.pic_h a.col_mv) ≡ false
+map_good : (c : place.Else2 claims Pre Post) → let a = c.args in (a.has_col && map_short a.b.pic_w a.b.pic_h a.col_mv) ≡ false
 map_good c = sym (map_test c.before) ∙ c.if-has_col-map_short.false
 
 pub returns-then-code-ne0 : goal.returns-then-code-ne0

@@ -20,8 +20,3 @@ pub direct_vectors-requires : goal.direct_vectors-requires
 direct_vectors-requires c =
     let a = c.args in
     counts_good a.block a.pocs a.has_col a.col_mv.now c.requires
-
-pub returns : goal.returns
-returns c =
-    let a = c.args in
-    c.direct_vectors.ensures ∙ ap (direct_vectors a.pocs) (c.collocated_mv-mv.ensures ∙ rw c.unit_at-scup.ensures)

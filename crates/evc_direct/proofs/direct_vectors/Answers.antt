@@ -15,17 +15,9 @@ use Rattle.evc_def.specs.declared.EvcMv.{EvcMv}
 use Rattle.evc_direct.specs.Direct.{dpoc_co, dpoc0, dpoc1, exact_quotient, exact_quotients, low_mv, direct_vectors}
 use Rattle.evc_direct.specs.declared.Pocs.{Pocs}
 use Rattle.evc_direct.proofs.direct_vectors.Goals as goal
-
--- a distance of counts, as the machine reads it, is small, and 0 only between equal ones
-small : (d e : ℤ) → e ≡ d → nat_abs d ≤ max_poc → nat_abs e ≤ max_poc
-small d e q h = rw q h
-
-apart : (a b : ℕ) (d e : ℤ) → (a ≡ b → ⊥) → d ≡ pos a -ℤ pos b → e ≡ d → 0 < nat_abs e
-apart a b d e n p q = go (nat_abs e) refl
-  where
-    go : (m : ℕ) → nat_abs e ≡ m → 0 < m
-    go zero z = absurd (n (let i = is_eq (q ∙ p) (is-- (nat a) (nat b)) in omega (arith, abs_of e)))
-    go (suc m) z = omega arith
+use Rattle.evc_direct.proofs.direct_vectors.Lts as place
+use Rattle.evc_direct.proofs.direct_vectors.Reads.{Pre, Post}
+use Rattle.evc_direct.proofs.direct_vectors.Tie.{the-claims as claims}
 
 -- a vector scaled by a distance
 abbrev scaled_by : ℤ → ℤ → EvcMv → EvcMv
@@ -46,20 +38,6 @@ module _ (p : Pocs) (mv : EvcMv) where
 
 pub returns-then-p : goal.returns-then-p
 returns-then-p c = none _ _ c.if-p.true
-
-co_apart : (k : goal.After-dpoc-dpoc_co) → 0 < nat_abs (to_z w32 (of_z w32 k.dpoc-dpoc_co.result))
-co_apart k = apart _ _ _ _ k.if-p.false k.dpoc-dpoc_co.ensures.0 (res w32 k.dpoc-dpoc_co.type_inv)
-
-co_small : (k : goal.After-dpoc-dpoc_co) → nat_abs (to_z w32 (of_z w32 k.dpoc-dpoc_co.result)) ≤ max_poc
-co_small k = small k.dpoc-dpoc_co.result _ (res w32 k.dpoc-dpoc_co.type_inv) k.dpoc-dpoc_co.ensures.1
-
-pub scaled_mv-requires : goal.scaled_mv-requires
-scaled_mv-requires c =
-    (small c.dpoc.result _ (res w32 c.dpoc.type_inv) c.dpoc.ensures.1, co_apart c.before, co_small c.before)
-
-pub scaled_mv-requires-2 : goal.scaled_mv-requires-2
-scaled_mv-requires-2 c =
-    (small c.dpoc-2.result _ (res w32 c.dpoc-2.type_inv) c.dpoc-2.ensures.1, co_apart c.before.before.before, co_small c.before.before.before)
 
 pub returns : goal.returns
 returns c =

@@ -3,9 +3,6 @@ use mathlib.Core.Path.{sym, ◌∙◌}
 use Rattle.evc_direct.proofs.Direct.{refusal, done}
 use Rattle.evc_direct.proofs.evc_get_mv_dir.Goals as goal
 
-pub direct_mv-direct-requires : goal.direct_mv-direct-requires
-direct_mv-direct-requires c = sym c.direct_code-code.ensures ∙ c.if-code-eq0.true
-
 pub returns-then-code-eq0 : goal.returns-then-code-eq0
 returns-then-code-eq0 c =
     let a = c.args in

@@ -10,28 +10,19 @@ use Rattle.evc_int.proofs.Whole.{abs_mul_le}
 use Rattle.evc_int.proofs.Division.{abs_quot_le}
 use Rattle.evc_int.proofs.Machine.{fit_abs, rng_abs, bits_pos, res}
 use Rattle.evc_direct.proofs.scaled.Goals as goal
+use Rattle.evc_direct.proofs.scaled.Lts as place
+use Rattle.evc_direct.proofs.scaled.Reads.{Pre, Post}
+use Rattle.evc_direct.proofs.scaled.Tie.{the-claims as claims}
 
-v_fits : (c : goal.Start) → SFits w32 c.args.v
+v_fits : (c : place.Start claims Pre Post) → SFits w32 c.args.v
 v_fits c = sfits_widen tt c.ranges.v
 
-product_fits : (c : goal.Start) → SFits w32 (c.args.dpoc *ℤ c.args.v)
+product_fits : (c : place.Start claims Pre Post) → SFits w32 (c.args.dpoc *ℤ c.args.v)
 product_fits c = fit_abs (abs_mul_le c.args.dpoc c.args.v c.requires.0 (rng_abs c.ranges.v)) (lit< tt)
 
-quotient_fits : (c : goal.Start) → SFits w32 (quot_z (c.args.dpoc *ℤ c.args.v) c.args.dpoc_co)
+quotient_fits : (c : place.Start claims Pre Post) → SFits w32 (quot_z (c.args.dpoc *ℤ c.args.v) c.args.dpoc_co)
 quotient_fits c =
     fit_abs (abs_quot_le (c.args.dpoc *ℤ c.args.v) c.args.dpoc_co (abs_mul_le c.args.dpoc c.args.v c.requires.0 (rng_abs c.ranges.v))) (lit< tt)
-
-pub overflow_cast-v : goal.overflow_cast-v
-overflow_cast-v c = simp (to_z-of_z c.ranges.v) (v_fits c)
-
-pub overflow_mul-dpoc : goal.overflow_mul-dpoc
-overflow_mul-dpoc c = simp (to_z-of_z c.ranges.v, to_z-of_z c.ranges.dpoc, to_z-of_z (v_fits c)) (product_fits c)
-
-pub nonzero_div-dpoc : goal.nonzero_div-dpoc
-nonzero_div-dpoc c = (
-  bits_pos w32 c.args.dpoc_co c.ranges.dpoc_co c.requires.1,
-  simp (to_z-of_z c.ranges.v, to_z-of_z c.ranges.dpoc, to_z-of_z c.ranges.dpoc_co, to_z-of_z (v_fits c), to_z-of_z (product_fits c)) (quotient_fits c),
-)
 
 pub returns : goal.returns
 returns c =

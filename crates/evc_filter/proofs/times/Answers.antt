@@ -5,6 +5,9 @@ use native.Mathlib.Nat.{mul-le-mul, mul-le-mul_left, mul-le-mul_right}
 use native.Mathlib.Omega.{arith}
 use lib.Bits.{bit_and, and_mask, and_le_l}
 use Rattle.evc_filter.proofs.times.Goals as goal
+use Rattle.evc_filter.proofs.times.Lts as place
+use Rattle.evc_filter.proofs.times.Reads.{Pre, Post}
+use Rattle.evc_filter.proofs.times.Tie.{the-claims as claims}
 
 -- a product by the digits of its first factor
 digits : (t x : ℕ) → t * x ≡ t / 16 * x * 16 + bit_and (t / 4) 3 * x * 4 + bit_and t 3 * x
@@ -20,23 +23,14 @@ joined t x high middle low h p q r =
     let e : high * 4 % 65536 ≡ high * 4 = omega arith in
     rw e (omega arith)
 
-module _ (s : goal.Start) where
+module _ (s : place.Start claims Pre Post) where
   fits : s.args.t * s.args.x ≤ 65535
   fits = omega (arith, mul-le-mul s.requires.0 s.requires.1)
 
   digit_fits : (n : ℕ) → n ≤ s.args.t → n * s.args.x ≤ 65535
   digit_fits n h = omega (arith, fits, mul-le-mul_right s.args.x h)
 
-pub multiple-high-requires : goal.multiple-high-requires
-multiple-high-requires c = digit_fits c _ (omega arith)
-
-pub multiple-middle-requires : goal.multiple-middle-requires
-multiple-middle-requires c = digit_fits c _ (omega (arith, and_le_l (c.args.t / 4) 3))
-
-pub multiple-low-requires : goal.multiple-low-requires
-multiple-low-requires c = digit_fits c _ (and_le_l c.args.t _)
-
-product : (c : goal.After-multiple-low) → (c.multiple-high.result * 4 % 65536 + c.multiple-middle.result) * 4 % 65536 + c.multiple-low.result ≡ c.args.t * c.args.x
+product : (c : place.After-multiple3 claims Pre Post) → (c.multiple-high.result * 4 % 65536 + c.multiple-middle.result) * 4 % 65536 + c.multiple-low.result ≡ c.args.t * c.args.x
 product c = joined c.args.t c.args.x _ _ _ (fits c) c.multiple-high.ensures c.multiple-middle.ensures c.multiple-low.ensures
 
 pub overflow_add-result : goal.overflow_add-result

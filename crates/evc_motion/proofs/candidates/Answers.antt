@@ -1,6 +1,6 @@
 -- `evc_motion::candidates` meets its contract. Assumes nothing.
 use mathlib.Core.Bool.{Bool, true, false, cond}
-use mathlib.Core.List.{List, ◌∷◌}
+use mathlib.Core.List.{List, [], ◌∷◌}
 use mathlib.Core.Path.{◌≡◌, sym, ◌∙◌}
 use Prim.Native.Nat.{ℕ, ◌+◌, ◌-◌, ◌*◌, ◌≤◌, ◌<◌}
 use native.Mathlib.Omega.{arith}
@@ -43,10 +43,10 @@ kept : (has : Bool) (mv old : EvcMv) → has ≡ false → old ≡ cond has mv o
 kept has mv old f = rw f
 
 -- the block's first unit lies in the picture
-inside : (k : goal.After-unit_at-scup) → let b = k.args.b in k.unit_at-scup.result.0 < units_of b.pic_w b.pic_h
+inside : (k : place.After-unit_at claims Pre Post clauses) → let b = k.args.b in k.unit_at-scup.result.0 < units_of b.pic_w b.pic_h
 inside k = let p = k.requires.allowed in rw k.unit_at-scup.ensures (scup_below k.args.b p.0 p.1)
 
-reaches : (k : goal.After-unit_at-scup) → mv_len * k.unit_at-scup.result.0 + mv_len ≤ length k.args.map_mv.now
+reaches : (k : place.After-unit_at claims Pre Post clauses) → mv_len * k.unit_at-scup.result.0 + mv_len ≤ length k.args.map_mv.now
 reaches k = map_reaches k.args.b _ _ _ k.requires.lidx_bound.1 _ (inside k)
 
 pub neighbour_mv-left-requires : goal.neighbour_mv-left-requires

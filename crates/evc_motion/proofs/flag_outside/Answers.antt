@@ -28,8 +28,8 @@ module _ (b : EvcBlock) (avail : ℕ) (right : Bool) (e : right ≡ not (eqb (b.
 
 pub returns-then-b-right : goal.returns-then-b-right
 returns-then-b-right c =
-    inner c.args.b c.args.avail _ c.Has-right.ensures c.if-b-right.true
+    inner c.args.b c.args.avail _ c.has_right-right.ensures c.if-b-right.true
 
 pub returns-else-b-right : goal.returns-else-b-right
 returns-else-b-right c =
-    at_edge c.args.b c.args.avail _ c.Has-right.ensures _ _ _ c.GET_AVAIL_FLAG.ensures c.GET_AVAIL_FLAG-else-b-right.ensures c.GET_AVAIL_FLAG-else-b-right-2.ensures
+    at_edge c.args.b c.args.avail _ c.has_right-right.ensures _ _ _ c.GET_AVAIL_FLAG.ensures c.GET_AVAIL_FLAG-else-b-right.ensures c.GET_AVAIL_FLAG-else-b-right-2.ensures

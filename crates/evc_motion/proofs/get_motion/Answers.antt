@@ -15,6 +15,9 @@ use Rattle.evc_def.proofs.Blocks.{allowed_block}
 use Rattle.evc_motion.specs.Candidates.{flag_outside, maps_short, motion_checks, candidates, get_motion}
 use Rattle.evc_motion.specs.declared.EvcCandidates.{EvcCandidates}
 use Rattle.evc_motion.proofs.get_motion.Goals as goal
+use Rattle.evc_motion.proofs.get_motion.Lts as place
+use Rattle.evc_motion.proofs.get_motion.Reads.{Pre, Post}
+use Rattle.evc_motion.proofs.get_motion.Tie.{the-claims as claims}
 
 module _ (b : EvcBlock) (lidx avail : ℕ) (map : List ℤ) (has : Bool) (col : List ℤ) where
   refusal : (old : EvcCandidates) (code : ℕ) → code ≡ first_of (motion_checks b lidx avail (length map) has (length col)) → (code ≡ 0 → ⊥) → record { code = code; cand = old } ≡ get_motion b lidx avail map has col old
@@ -38,7 +41,7 @@ returns-then-code-ne0 c =
     let a = c.args in
     refusal a.block a.lidx a.avail a.map_mv.now a.has_col a.col_mv.now a.old _ c.motion_code-code.ensures c.if-code-ne0.true
 
-accepted_call : (c : goal.Else-code-ne0) → let a = c.args in first_of (motion_checks a.block a.lidx a.avail (length a.map_mv.now) a.has_col (length a.col_mv.now)) ≡ 0
+accepted_call : (c : place.Else1 claims Pre Post) → let a = c.args in first_of (motion_checks a.block a.lidx a.avail (length a.map_mv.now) a.has_col (length a.col_mv.now)) ≡ 0
 accepted_call c = sym c.motion_code-code.ensures ∙ c.if-code-ne0.false
 
 pub candidates-requires : goal.candidates-requires

@@ -15,10 +15,10 @@ use Rattle.evc_motion.proofs.motion_code.Tie.{the-claims as claims}
 block_good : (c : place.Else1 claims Pre Post) → first_of (block_checks c.args.b) ≡ 0
 block_good c = sym c.block_code-code.ensures ∙ c.if-code-ne0.false
 
-list_good : (c : goal.Else-lidx-gt1) → ltb 1 c.args.lidx ≡ false
+list_good : (c : place.Else2 claims Pre Post) → ltb 1 c.args.lidx ≡ false
 list_good c = le-ltb _ _ c.if-lidx-gt1.false
 
-maps_good : (c : goal.Else-maps_short) → maps_short c.args.b c.args.map_mv c.args.has_col c.args.col_mv ≡ false
+maps_good : (c : place.Else3 claims Pre Post) → maps_short c.args.b c.args.map_mv c.args.has_col c.args.col_mv ≡ false
 maps_good c = sym c.maps_short.ensures ∙ c.if-maps_short.false
 
 pub returns-then-code-ne0 : goal.returns-then-code-ne0

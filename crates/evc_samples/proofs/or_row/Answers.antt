@@ -11,24 +11,5 @@ loop-x-init c = (omega arith, row_none _ _)
 
 pub loop-x-preserved : goal.loop-x-preserved
 loop-x-preserved c =
-    let i = c.loop in
+    let i = c.loop-x in
     (omega arith, row_more _ _ _ _ _ i.invariant.1 (rw (zero-add i.x) c.gather-o.ensures))
-
-pub returns : goal.returns
-returns c =
-    let i = c.loop in
-    let z = c.args in
-    let e : i.x ≡ z.n = omega arith in
-    i.invariant.1 ∙ ap (row_exceeds z.row.now 0) e
-
-pub offset_bounds-row-x : goal.offset_bounds-row-x
-offset_bounds-row-x c = omega arith
-
-pub bounds-row-x : goal.bounds-row-x
-bounds-row-x c = omega arith
-
-pub overflow_step-x : goal.overflow_step-x
-overflow_step-x c = omega arith
-
-pub loop-x-smaller : goal.loop-x-smaller
-loop-x-smaller c = omega arith

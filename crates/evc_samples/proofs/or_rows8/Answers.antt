@@ -16,14 +16,11 @@ use Rattle.evc_samples.proofs.or_rows8.Tie.{the-claims as claims}
 pub loop-y-init : goal.loop-y-init
 loop-y-init c = (omega arith, none8 ∙ rows_none _ _ _ _)
 
-room : (c : place.In-loop claims Pre Post goal.the-invariant-loop-y goal.the-decreases-loop-y) → c.loop.y * c.args.stride + c.args.stride ≤ c.args.h * c.args.stride
-room c = row_fits _ c.loop-y-test.true
-
 pub loop-y-preserved : goal.loop-y-preserved
 loop-y-preserved c =
     let z = c.args in
-    let y = c.loop.y in
-    let o = c.loop.o in
+    let y = c.loop-y.y in
+    let o = c.loop-y.o in
     let row = z.at + y * z.stride in (
       omega arith,
       rows_more z.s.now z.at z.stride z.n y (exceeds8 o) (row_exceeds z.s.now row z.n) _ c.loop-y.invariant.1 refl
@@ -33,29 +30,8 @@ loop-y-preserved c =
 pub returns : goal.returns
 unfolding exceeds8
 returns c =
-    let i = c.loop in
+    let i = c.loop-y in
     let z = c.args in
     let l = i.o in
     let e : i.y ≡ z.h = omega arith in
     (c.gather-7.ensures ∙ ap (λ (b : Bool). b || too_large l.o7) (c.gather-6.ensures ∙ ap (λ (b : Bool). b || too_large l.o6) (c.gather-5.ensures ∙ ap (λ (b : Bool). b || too_large l.o5) (c.gather-4.ensures ∙ ap (λ (b : Bool). b || too_large l.o4) (c.gather-3.ensures ∙ ap (λ (b : Bool). b || too_large l.o3) (c.gather-2.ensures ∙ ap (λ (b : Bool). b || too_large l.o2) c.gather.ensures)))))) ∙ i.invariant.1 ∙ ap (λ (m : ℕ). exceeds z.s.now z.at z.stride z.n m) e
-
-pub overflow_mul-i : goal.overflow_mul-i
-overflow_mul-i c = let r = room c.before in omega arith
-
-pub overflow_add-i : goal.overflow_add-i
-overflow_add-i c = let r = room c.before in omega arith
-
-pub overflow_add-i-in-loop-y : goal.overflow_add-i-in-loop-y
-overflow_add-i-in-loop-y c = let r = room c.before in omega arith
-
-pub overflow_sub-i : goal.overflow_sub-i
-overflow_sub-i c = omega arith
-
-pub gather8-o-requires : goal.gather8-o-requires
-gather8-o-requires c = let r = room c.before in omega arith
-
-pub overflow_step-y : goal.overflow_step-y
-overflow_step-y c = omega arith
-
-pub loop-y-smaller : goal.loop-y-smaller
-loop-y-smaller c = omega arith

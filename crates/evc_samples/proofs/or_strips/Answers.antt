@@ -13,37 +13,13 @@ loop-x-init c = (omega arith, columns_begin _ _ _ _ _ _ c.or_rows8-o.ensures)
 pub loop-x-preserved : goal.loop-x-preserved
 loop-x-preserved c =
     let z = c.args in
-    let i = c.loop in (
+    let i = c.loop-x in (
       omega arith,
       columns_more z.s.now z.at z.stride z.h i.x 16 (exceeds z.s.now (z.at + z.n - 16) z.stride 16 z.h) _ _ _ i.invariant.1 c.or_rows8.ensures c.gather-o.ensures,
     )
 
 pub returns : goal.returns
 returns c =
-    let i = c.loop in
+    let i = c.loop-x in
     let z = c.args in
     i.invariant.1 ∙ columns_all z.s.now z.at z.stride z.h z.n i.x 16 (omega arith) (omega arith) (omega arith)
-
-pub overflow_add-at : goal.overflow_add-at
-overflow_add-at c = let p : 0 < c.args.h = omega arith in let r = row_fits c.args.stride p in omega arith
-
-pub overflow_sub-at : goal.overflow_sub-at
-overflow_sub-at c = omega arith
-
-pub or_rows8-o-requires : goal.or_rows8-o-requires
-or_rows8-o-requires c = omega arith
-
-pub overflow_add-x : goal.overflow_add-x
-overflow_add-x c = let p : 0 < c.args.h = omega arith in let r = row_fits c.args.stride p in omega arith
-
-pub overflow_add-at-in-loop-x : goal.overflow_add-at-in-loop-x
-overflow_add-at-in-loop-x c = let p : 0 < c.args.h = omega arith in let r = row_fits c.args.stride p in omega arith
-
-pub or_rows8-requires : goal.or_rows8-requires
-or_rows8-requires c = omega arith
-
-pub overflow_add-x-in-loop-x : goal.overflow_add-x-in-loop-x
-overflow_add-x-in-loop-x c = omega arith
-
-pub loop-x-smaller : goal.loop-x-smaller
-loop-x-smaller c = omega arith

@@ -33,9 +33,6 @@ module _ (W H : ℕ) (d : List ℕ) where
 good : (c : place.Else1 claims Pre Post clauses) → bad_picture c.args.pic_w c.args.pic_h ≡ false
 good c = sym c.bad_picture.ensures ∙ c.if-bad_picture.false
 
-pub bad_picture-requires : goal.bad_picture-requires
-bad_picture-requires c = search rules
-
 pub returns-then-bad_picture : goal.returns-then-bad_picture
 returns-then-bad_picture c = let e = code_1 _ _ _ (sym c.bad_picture.ensures ∙ c.if-bad_picture.true) in record { value = e; out_after = kept _ _ _ _ e (λ z. omega arith) }
 
@@ -47,12 +44,6 @@ overflow_cast-pic_w c = record { fits = omega (arith, (picture_sides _ _ (good c
 
 pub overflow_cast-pic_h : goal.overflow_cast-pic_h
 overflow_cast-pic_h c = record { fits = omega (arith, (picture_sides _ _ (good c.before.before)).1.top) }
-
-pub put_header-requires : goal.put_header-requires
-put_header-requires c = search rules
-
-pub shape_of-out : goal.shape_of-out
-shape_of-out c = search rules
 
 pub returns : goal.returns
 returns c = let e = code_0 _ _ _ (sym c.bad_picture.ensures ∙ c.if-bad_picture.false) c.if-out-lt-HEADER_LEN.false in record { value = e; out_after = wrote _ _ _ _ e c.put_header.ensures }

@@ -31,26 +31,14 @@ module _ (W H : ℕ) (r : EvcTraceRecord) (d : List ℕ) where
   unfolding write_record_code
   code_0 e l f = sym (passed _ _ _ e ∙ passed _ _ _ (le-ltb _ _ l) ∙ passed _ _ _ f ∙ none)
 
-pub bad_picture-requires : goal.bad_picture-requires
-bad_picture-requires c = search rules
-
 pub returns-then-bad_picture : goal.returns-then-bad_picture
 returns-then-bad_picture c = let e = code_1 _ _ _ _ (sym c.bad_picture.ensures ∙ c.if-bad_picture.true) in record { value = e; out_after = kept _ _ _ _ e (λ z. omega arith) }
 
 pub returns-then-out-lt-RECORD_LEN : goal.returns-then-out-lt-RECORD_LEN
 returns-then-out-lt-RECORD_LEN c = let e = code_4 _ _ _ _ (sym c.bad_picture.ensures ∙ c.if-bad_picture.false) c.if-out-lt-RECORD_LEN.true in record { value = e; out_after = kept _ _ _ _ e (λ z. omega arith) }
 
-pub is_well_formed-requires : goal.is_well_formed-requires
-is_well_formed-requires c = search rules
-
 pub returns-then-not-is_well_formed : goal.returns-then-not-is_well_formed
 returns-then-not-is_well_formed c = let e = code_12 _ _ _ _ (sym c.bad_picture.ensures ∙ c.if-bad_picture.false) c.if-out-lt-RECORD_LEN.false (ap not (sym c.is_well_formed.ensures) ∙ c.if-not-is_well_formed.true) in record { value = e; out_after = kept _ _ _ _ e (λ z. omega arith) }
-
-pub put_record-requires : goal.put_record-requires
-put_record-requires c = search rules
-
-pub shape_of-out : goal.shape_of-out
-shape_of-out c = search rules
 
 pub returns : goal.returns
 returns c = let e = code_0 _ _ _ _ (sym c.bad_picture.ensures ∙ c.if-bad_picture.false) c.if-out-lt-RECORD_LEN.false (ap not (sym c.is_well_formed.ensures) ∙ c.if-not-is_well_formed.false) in record { value = e; out_after = wrote _ _ _ _ e c.put_record.ensures }

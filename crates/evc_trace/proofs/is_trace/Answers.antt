@@ -14,17 +14,5 @@ marked : (s : List ℕ) (v : ℕ) → v ≡ number_at 2 s 3 → (eqb (get_or s 0
 unfolding is_trace
 marked s v e = rw e
 
-pub u16_at-version-requires : goal.u16_at-version-requires
-u16_at-version-requires c = search rules
-
-pub bounds-s-0 : goal.bounds-s-0
-bounds-s-0 c = search rules
-
-pub bounds-s-1 : goal.bounds-s-1
-bounds-s-1 c = search rules
-
-pub bounds-s-2 : goal.bounds-s-2
-bounds-s-2 c = search rules
-
 pub returns : goal.returns
 returns c = marked _ _ c.u16_at-version.ensures

@@ -11,11 +11,5 @@ form : (r : EvcTraceRecord) (a b : Bool) → a ≡ is_zero_mv r.mv0 → b ≡ is
 unfolding is_well_formed
 form r a b p q = rw (p, q)
 
-pub is_zero_mv-zero0-requires : goal.is_zero_mv-zero0-requires
-is_zero_mv-zero0-requires c = search rules
-
-pub is_zero_mv-zero1-requires : goal.is_zero_mv-zero1-requires
-is_zero_mv-zero1-requires c = search rules
-
 pub returns : goal.returns
 returns c = form _ _ _ c.is_zero_mv-zero0.ensures c.is_zero_mv-zero1.ensures

@@ -4,18 +4,6 @@ use Rattle.evc_bytes.proofs.Written.{joined}
 use Rattle.evc_trace.proofs.Written.{from_start}
 use Rattle.evc_trace.proofs.put_header.Goals as goal
 
-pub put_mark-requires : goal.put_mark-requires
-put_mark-requires c = search rules
-
-pub put_pair-requires : goal.put_pair-requires
-put_pair-requires c = search rules
-
-pub put_pair-requires-2 : goal.put_pair-requires-2
-put_pair-requires-2 c = search rules
-
-pub shape_of-out : goal.shape_of-out
-shape_of-out c = search rules
-
 pub returns : goal.returns
 returns c =
     from_start _ _ _ (joined _ _ _ 0 _ _ (joined _ _ _ 0 _ _ c.put_mark.ensures c.put_pair.ensures) c.put_pair-2.ensures) c.requires

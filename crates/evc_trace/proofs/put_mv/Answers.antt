@@ -22,18 +22,6 @@ same_bits d f at a b x y p q r = p ∙ ap₂ (λ (a b : ℤ). written d at (byte
 fits : (c : place.After-struct_told claims Pre Post) → let a = c.args in SFits w16 a.mv.x × SFits w16 a.mv.y
 fits c = (search rules, search rules)
 
-pub put_i16-requires : goal.put_i16-requires
-put_i16-requires c = search rules
-
-pub overflow_add-at : goal.overflow_add-at
-overflow_add-at c = search rules
-
-pub put_i16-requires-2 : goal.put_i16-requires-2
-put_i16-requires-2 c = search rules
-
-pub shape_of-out : goal.shape_of-out
-shape_of-out c = search rules
-
 pub returns : goal.returns
 returns c =
     let f = fits c.before.before.before.before.before.before.before.before.before in

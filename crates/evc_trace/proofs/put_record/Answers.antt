@@ -4,30 +4,6 @@ use Rattle.evc_bytes.proofs.Written.{joined}
 use Rattle.evc_trace.proofs.Written.{from_start}
 use Rattle.evc_trace.proofs.put_record.Goals as goal
 
-pub put_pair-requires : goal.put_pair-requires
-put_pair-requires c = search rules
-
-pub put_pair-requires-2 : goal.put_pair-requires-2
-put_pair-requires-2 c = search rules
-
-pub put_u8-requires : goal.put_u8-requires
-put_u8-requires c = search rules
-
-pub put_mv-requires : goal.put_mv-requires
-put_mv-requires c = search rules
-
-pub put_mv-requires-2 : goal.put_mv-requires-2
-put_mv-requires-2 c = search rules
-
-pub put_pair-requires-3 : goal.put_pair-requires-3
-put_pair-requires-3 c = search rules
-
-pub put_u8-requires-2 : goal.put_u8-requires-2
-put_u8-requires-2 c = search rules
-
-pub shape_of-out : goal.shape_of-out
-shape_of-out c = search rules
-
 pub returns : goal.returns
 returns c =
     let e0 = c.put_pair.ensures in

@@ -11,29 +11,5 @@ made : (s : List ℕ) (W H p q : ℕ) → W ≡ number_at 2 s 5 → H ≡ number
 unfolding header_of
 made s W H p q e₀ e₁ e₂ e₃ = simp (e₀, e₁, e₂, e₃)
 
-pub u16_at-pic_w-requires : goal.u16_at-pic_w-requires
-u16_at-pic_w-requires c = search rules
-
-pub u16_at-pic_h-requires : goal.u16_at-pic_h-requires
-u16_at-pic_h-requires c = search rules
-
-pub u16_at-poc-requires : goal.u16_at-poc-requires
-u16_at-poc-requires c = search rules
-
-pub u16_at-list_poc0-requires : goal.u16_at-list_poc0-requires
-u16_at-list_poc0-requires c = search rules
-
-pub overflow_cast-result : goal.overflow_cast-result
-overflow_cast-result c = search rules
-
-pub overflow_cast-result-2 : goal.overflow_cast-result-2
-overflow_cast-result-2 c = search rules
-
-pub overflow_cast-result-3 : goal.overflow_cast-result-3
-overflow_cast-result-3 c = search rules
-
-pub overflow_cast-result-4 : goal.overflow_cast-result-4
-overflow_cast-result-4 c = search rules
-
 pub returns : goal.returns
 returns c = made _ _ _ _ _ c.u16_at-pic_w.ensures c.u16_at-pic_h.ensures c.u16_at-poc.ensures c.u16_at-list_poc0.ensures

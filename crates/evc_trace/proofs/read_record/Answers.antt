@@ -14,32 +14,5 @@ made : (s : List ℕ) (x y w h p q : ℕ) (u v : EvcMv) → x ≡ number_at 2 s 
 unfolding record_of
 made s x y w h p q u v e₀ e₁ e₂ e₃ e₄ e₅ e₆ e₇ = simp (e₀, e₁, e₂, e₃, e₄, e₅, e₆, e₇)
 
-pub u16_at-requires : goal.u16_at-requires
-u16_at-requires c = search rules
-
-pub u16_at-requires-2 : goal.u16_at-requires-2
-u16_at-requires-2 c = search rules
-
-pub u16_at-requires-3 : goal.u16_at-requires-3
-u16_at-requires-3 c = search rules
-
-pub u16_at-requires-4 : goal.u16_at-requires-4
-u16_at-requires-4 c = search rules
-
-pub bounds-s-8 : goal.bounds-s-8
-bounds-s-8 c = search rules
-
-pub mv_at-requires : goal.mv_at-requires
-mv_at-requires c = search rules
-
-pub mv_at-requires-2 : goal.mv_at-requires-2
-mv_at-requires-2 c = search rules
-
-pub u16_at-requires-5 : goal.u16_at-requires-5
-u16_at-requires-5 c = search rules
-
-pub u16_at-requires-6 : goal.u16_at-requires-6
-u16_at-requires-6 c = search rules
-
 pub returns : goal.returns
 returns c = made _ _ _ _ _ _ _ _ _ c.u16_at.ensures c.u16_at-2.ensures c.u16_at-3.ensures c.u16_at-4.ensures c.mv_at.ensures c.mv_at-2.ensures c.u16_at-5.ensures c.u16_at-6.ensures

@@ -9,8 +9,3 @@ use Rattle.evc_counts.proofs.MovedCounts.with_lists.Goals as goal
 pub with-requires-2 : goal.with-requires-2
 with-requires-2 c =
     subst (AtMost 18446744073709551614) (sym c.with.ensures) (plus_most 18446744073709551613 1 c.args.self (counts_of c.args.moved0) c.requires (counts_most c.args.moved0))
-
-pub returns : goal.returns
-returns c =
-    let a = c.args in
-    c.with-2.ensures ∙ ap (λ (d : MovedCounts). d plus counts_of a.moved1) c.with.ensures ∙ plus_assoc a.self (counts_of a.moved0) (counts_of a.moved1)
