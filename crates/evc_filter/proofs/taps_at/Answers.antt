@@ -21,7 +21,7 @@ above n m l d = omega arith
 
 last_row : (c : place.After-sizes12 claims Pre Post) → c.args.row ≡ 11
 last_row c =
-    let r = c.in_default.rest in
+    let r = c.in_default.in_default-own.rest in
     let n = c.args.row in
     let a = above n 10 (above n 9 (above n 8 (above n 7 (above n 6 (above n 5 (above n 4 (above n 3 (above n 2 (above n 1 (above n 0 (omega arith) r.0.0.0.0.0.0.0.0.0.0.1) r.0.0.0.0.0.0.0.0.0.1) r.0.0.0.0.0.0.0.0.1) r.0.0.0.0.0.0.0.1) r.0.0.0.0.0.0.1) r.0.0.0.0.0.1) r.0.0.0.0.1) r.0.0.0.1) r.0.0.1) r.0.1) r.1 in
     omega (arith, a, c.requires)

@@ -31,13 +31,13 @@ module _ (s : place.Start claims Pre Post) where
   digit_fits n h = omega (arith, fits, mul-le-mul_right s.args.x h)
 
 product : (c : place.After-multiple3 claims Pre Post) → (c.multiple-high.result * 4 % 65536 + c.multiple-middle.result) * 4 % 65536 + c.multiple-low.result ≡ c.args.t * c.args.x
-product c = joined c.args.t c.args.x _ _ _ (fits c) c.multiple-high.ensures c.multiple-middle.ensures c.multiple-low.ensures
+product c = joined c.args.t c.args.x _ _ _ (fits c.before.before.before) c.multiple-high.ensures c.multiple-middle.ensures c.multiple-low.ensures
 
 pub overflow_add-result : goal.overflow_add-result
-overflow_add-result c = record { fits = omega (arith, fits c, digits c.args.t c.args.x) }
+overflow_add-result c = record { fits = omega (arith, fits c.before.before.before, digits c.args.t c.args.x) }
 
 pub overflow_add-result-2 : goal.overflow_add-result-2
-overflow_add-result-2 c = record { fits = omega (arith, fits c, digits c.args.t c.args.x) }
+overflow_add-result-2 c = record { fits = omega (arith, fits c.before.before.before, digits c.args.t c.args.x) }
 
 pub returns : goal.returns
 returns c =

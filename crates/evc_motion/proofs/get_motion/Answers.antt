@@ -17,7 +17,7 @@ use Rattle.evc_motion.specs.declared.EvcCandidates.{EvcCandidates}
 use Rattle.evc_motion.proofs.get_motion.Goals as goal
 use Rattle.evc_motion.proofs.get_motion.Lts as place
 use Rattle.evc_motion.proofs.get_motion.Reads.{Pre, Post}
-use Rattle.evc_motion.proofs.get_motion.Tie.{the-claims as claims}
+use Rattle.evc_motion.proofs.get_motion.Tie.{the-claims as claims, handed_clauses as clauses}
 
 module _ (b : EvcBlock) (lidx avail : ℕ) (map : List ℤ) (has : Bool) (col : List ℤ) where
   refusal : (old : EvcCandidates) (code : ℕ) → code ≡ first_of (motion_checks b lidx avail (length map) has (length col)) → (code ≡ 0 → ⊥) → record { code = code; cand = old } ≡ get_motion b lidx avail map has col old
@@ -41,7 +41,7 @@ returns-then-code-ne0 c =
     let a = c.args in
     refusal a.block a.lidx a.avail a.map_mv.now a.has_col a.col_mv.now a.old _ c.motion_code-code.ensures c.if-code-ne0.true
 
-accepted_call : (c : place.Else1 claims Pre Post) → let a = c.args in first_of (motion_checks a.block a.lidx a.avail (length a.map_mv.now) a.has_col (length a.col_mv.now)) ≡ 0
+accepted_call : (c : place.Else1 claims Pre Post clauses) → let a = c.args in first_of (motion_checks a.block a.lidx a.avail (length a.map_mv.now) a.has_col (length a.col_mv.now)) ≡ 0
 accepted_call c = sym c.motion_code-code.ensures ∙ c.if-code-ne0.false
 
 pub candidates-requires : goal.candidates-requires

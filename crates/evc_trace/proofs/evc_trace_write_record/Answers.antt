@@ -38,7 +38,7 @@ pub returns-then-out-lt-RECORD_LEN : goal.returns-then-out-lt-RECORD_LEN
 returns-then-out-lt-RECORD_LEN c = let e = code_4 _ _ _ _ (sym c.bad_picture.ensures ∙ c.if-bad_picture.false) c.if-out-lt-RECORD_LEN.true in record { value = e; out_after = kept _ _ _ _ e (λ z. omega arith) }
 
 pub returns-then-not-is_well_formed : goal.returns-then-not-is_well_formed
-returns-then-not-is_well_formed c = let e = code_12 _ _ _ _ (sym c.bad_picture.ensures ∙ c.if-bad_picture.false) c.if-out-lt-RECORD_LEN.false (ap not (sym c.is_well_formed.ensures) ∙ c.if-not-is_well_formed.true) in record { value = e; out_after = kept _ _ _ _ e (λ z. omega arith) }
+returns-then-not-is_well_formed c = let e = code_12 _ _ _ _ (sym c.bad_picture.ensures ∙ c.if-bad_picture.false) c.if-out-lt-RECORD_LEN.false (ap not (sym c.is_well_formed.ensures ∙ c.if-not-is_well_formed.true)) in record { value = e; out_after = kept _ _ _ _ e (λ z. omega arith) }
 
 pub returns : goal.returns
-returns c = let e = code_0 _ _ _ _ (sym c.bad_picture.ensures ∙ c.if-bad_picture.false) c.if-out-lt-RECORD_LEN.false (ap not (sym c.is_well_formed.ensures) ∙ c.if-not-is_well_formed.false) in record { value = e; out_after = wrote _ _ _ _ e c.put_record.ensures }
+returns c = let e = code_0 _ _ _ _ (sym c.bad_picture.ensures ∙ c.if-bad_picture.false) c.if-out-lt-RECORD_LEN.false (ap not (sym c.is_well_formed.ensures ∙ c.if-not-is_well_formed.false)) in record { value = e; out_after = wrote _ _ _ _ e c.put_record.ensures }
