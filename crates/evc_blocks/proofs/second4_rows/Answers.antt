@@ -11,10 +11,10 @@ use Rattle.evc_blocks.proofs.second4_rows.Tie.{the-claims as claims}
 lengths : (s : place.Start claims Pre Post goal.the-invariant-loop-y goal.the-decreases-loop-y) → (length s.args.s.now < 18446744073709551616) × (length s.args.d.now < 18446744073709551616)
 lengths s = (omega arith, omega arith)
 
-reads : (c : place.In-loop claims Pre Post goal.the-invariant-loop-y goal.the-decreases-loop-y) → let a = c.args in let y = c.loop.y in (y * a.stride < 18446744073709551616) × (a.at + y * a.stride < 18446744073709551616)
+reads : (c : place.In-loop claims Pre Post goal.the-invariant-loop-y goal.the-decreases-loop-y) → let a = c.args in let y = c.loop-y.y in (y * a.stride < 18446744073709551616) × (a.at + y * a.stride < 18446744073709551616)
 reads c = reads_fit c.requires.0 c.loop-y-test.true (lengths c.before.before.before.before).0
 
-writes : (c : place.In-loop claims Pre Post goal.the-invariant-loop-y goal.the-decreases-loop-y) → let a = c.args in let y = c.loop.y in (y * a.width < 18446744073709551616) × (a.to + y * a.width < 18446744073709551616)
+writes : (c : place.In-loop claims Pre Post goal.the-invariant-loop-y goal.the-decreases-loop-y) → let a = c.args in let y = c.loop-y.y in (y * a.width < 18446744073709551616) × (a.to + y * a.width < 18446744073709551616)
 writes c = writes_fit c.loop-y.invariant c.loop-y-test.true c.requires.1 (lengths c.before.before.before.before).1
 
 pub loop-y-preserved : goal.loop-y-preserved

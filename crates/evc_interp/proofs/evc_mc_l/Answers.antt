@@ -16,36 +16,34 @@ use Rattle.evc_interp.proofs.Codes.{code_2, code_4, code_6, code_0, size, untouc
 use Rattle.evc_interp.proofs.evc_mc_l.Goals as goal
 use Rattle.evc_interp.proofs.evc_mc_l.Lts as place
 use Rattle.evc_interp.proofs.evc_mc_l.Reads.{Pre, Post}
-use Rattle.evc_interp.proofs.evc_mc_l.Tie.{the-claims as claims}
+use Rattle.evc_interp.proofs.evc_mc_l.Tie.{the-claims as claims, handed_clauses as clauses}
 
-sides : (c : place.After-is_block_side2 claims Pre Post) → let a = c.args in not (is_side Y a.w && is_side Y a.h) ≡ not (c.is_block_side.result && c.is_block_side-2.result)
+sides : (c : place.After-is_block_side2 claims Pre Post clauses) → let a = c.args in not (is_side Y a.w && is_side Y a.h) ≡ not (c.is_block_side.result && c.is_block_side-2.result)
 sides c = sym (ap₂ (λ (p q : Bool). not (p && q)) c.is_block_side.ensures c.is_block_side-2.ensures)
 
-allowed : (c : place.Else1 claims Pre Post) → let a = c.args in not (is_side Y a.w && is_side Y a.h) ≡ false
+allowed : (c : place.Else1 claims Pre Post clauses) → let a = c.args in not (is_side Y a.w && is_side Y a.h) ≡ false
 allowed c = sides c.before ∙ c.if-not-is_block_side.false
 
-long : (c : place.Else2 claims Pre Post) → let a = c.args in (ltb (length a.plane.now) (plane_len Y a.pic-w a.pic-h) || ltb (length a.pred.now) (a.w * a.h)) ≡ false
+long : (c : place.Else2 claims Pre Post clauses) → let a = c.args in (ltb (length a.plane.now) (plane_len Y a.pic_w a.pic_h) || ltb (length a.pred.now) (a.w * a.h)) ≡ false
 long c = sym c.is_short.ensures ∙ c.if-is_short.false
 
 pub returns-then-not-is_block_side : goal.returns-then-not-is_block_side
-returns-then-not-is_block_side c = untouched Y _ _ _ _ _ _ _ _ 2 (omega arith) (code_2 Y _ _ _ _ _ _ _ c.requires (sides c.before.before ∙ c.if-not-is_block_side.true))
+returns-then-not-is_block_side c = let parts = untouched Y _ _ _ _ _ _ _ _ 2 (omega arith) (code_2 Y _ _ _ _ _ _ _ c.requires (sides c.before.before ∙ c.if-not-is_block_side.true)) in record { value = parts.0; pred_after = parts.1 }
 
 pub is_short-requires : goal.is_short-requires
 is_short-requires c = (c.requires, size Y c.args.w c.args.h (allowed c.before))
 
 pub returns-then-is_short : goal.returns-then-is_short
-returns-then-is_short c =
-    untouched Y _ _ _ _ _ _ _ _ 4 (omega arith) (code_4 Y _ _ _ _ _ _ _ c.requires (allowed c.before.before.before) (sym c.is_short.ensures ∙ c.if-is_short.true))
+returns-then-is_short c = let parts = untouched Y _ _ _ _ _ _ _ _ 4 (omega arith) (code_4 Y _ _ _ _ _ _ _ c.requires (allowed c.before.before.before) (sym c.is_short.ensures ∙ c.if-is_short.true)) in record { value = parts.0; pred_after = parts.1 }
 
 pub window_exceeds-requires : goal.window_exceeds-requires
 window_exceeds-requires c =
     let t = all_true (is_side Y c.args.w) (is_side Y c.args.h) (allowed c.before.before.before.before) in record { pic_h_value = (c.requires, t.0, t.1); pic_h_in_bounds = ltb-false _ _ (none_true _ _ (long c.before.before)).0 }
 
 pub returns-then-window_exceeds : goal.returns-then-window_exceeds
-returns-then-window_exceeds c =
-    untouched Y _ _ _ _ _ _ _ _ 6 (omega arith) (code_6 Y _ _ _ _ _ _ _ c.requires (allowed c.before.before.before.before.before.before) (long c.before.before.before.before) (sym c.window_exceeds.ensures ∙ c.if-window_exceeds.true))
+returns-then-window_exceeds c = let parts = untouched Y _ _ _ _ _ _ _ _ 6 (omega arith) (code_6 Y _ _ _ _ _ _ _ c.requires (allowed c.before.before.before.before.before.before) (long c.before.before.before.before) (sym c.window_exceeds.ensures ∙ c.if-window_exceeds.true)) in record { value = parts.0; pred_after = parts.1 }
 
-accepted : (c : place.Else3 claims Pre Post) → let a = c.args in 0 ≡ mc_plane_code Y a.pic-w a.pic-h a.gmv a.w a.h a.plane.now a.pred.now
+accepted : (c : place.Else3 claims Pre Post clauses) → let a = c.args in 0 ≡ mc_plane_code Y a.pic_w a.pic_h a.gmv a.w a.h a.plane.now a.pred.now
 accepted c =
     code_0 Y _ _ _ _ _ _ _ c.requires (allowed c.before.before.before.before.before) (long c.before.before.before) (sym c.window_exceeds.ensures ∙ c.if-window_exceeds.false)
 

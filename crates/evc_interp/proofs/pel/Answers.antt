@@ -8,8 +8,8 @@ use Rattle.evc_interp.proofs.pel.Goals as goal
 
 pub returns-in-Y : goal.returns-in-Y
 unfolding pel_of
-returns-in-Y c = let z = c.args.z.0 in c.pel.ensures ∙ sym (ap (λ (t : PlaneType). shr_z z (phases t)) c.enum_told-1.given.1)
+returns-in-Y c = let z = c.args.z.0 in c.pel.ensures ∙ sym (ap (λ (t : PlaneType). shr_z z (phases t)) c.in-Y.is.1)
 
 pub returns-in-UV : goal.returns-in-UV
 unfolding pel_of
-returns-in-UV c = let z = c.args.z.0 in c.chroma_pel.ensures ∙ sym (ap (λ (t : PlaneType). shr_z z (phases t)) c.enum_told-in-UV-1.given.1)
+returns-in-UV c = let z = c.args.z.0 in c.chroma_pel.ensures ∙ sym (ap (λ (t : PlaneType). shr_z z (phases t)) c.in-UV.is)

@@ -15,13 +15,16 @@ use Rattle.evc_interp.specs.Prediction.{phase_of, is_filtered, window_of}
 use Rattle.evc_interp.specs.Inner.{position_of}
 use Rattle.evc_interp.proofs.Windows.{stride_is}
 use Rattle.evc_interp.proofs.position_of.Goals as goal
+use Rattle.evc_interp.proofs.position_of.Lts as place
+use Rattle.evc_interp.proofs.position_of.Reads.{Pre, Post}
+use Rattle.evc_interp.proofs.position_of.Tie.{the-claims as claims}
 
 made : (k : PlaneType) (W H : ℕ) (ori : EvcMv) (gmv : QpelPlace) (S at : ℕ) (a d : Bool) (i j : ℕ) → S ≡ stride_of k W → at ≡ window_of k W H a d gmv → a ≡ is_filtered k ori.x → d ≡ is_filtered k ori.y → i ≡ phase_of k gmv.x.0 → j ≡ phase_of k gmv.y.0
     → record { stride = S; at = at; across = a; down = d; dx = i; dy = j } ≡ position_of k W H ori gmv
 unfolding position_of
 made k W H ori gmv S at a d i j es e ea ed ei ej = rw (es, e, ea, ed, ei, ej)
 
-fits : (s : goal.Start) → let a = s.args in SFits w16 a.ori-mv.x × SFits w16 a.ori-mv.y
+fits : (s : place.Start claims Pre Post) → let a = s.args in SFits w16 a.ori_mv.x × SFits w16 a.ori_mv.y
 fits s = (search rules, search rules)
 
 pub returns : goal.returns

@@ -5,9 +5,9 @@ use Rattle.evc_interp.proofs.Windows.{Side, side, stride_is, examined_asks, exam
 use Rattle.evc_interp.proofs.window_exceeds.Goals as goal
 use Rattle.evc_interp.proofs.window_exceeds.Lts as place
 use Rattle.evc_interp.proofs.window_exceeds.Reads.{Pre, Post}
-use Rattle.evc_interp.proofs.window_exceeds.Tie.{the-claims as claims}
+use Rattle.evc_interp.proofs.window_exceeds.Tie.{the-claims as claims, handed_clauses as clauses}
 
-sides : (s : place.Start claims Pre Post) → Side s.args.t s.args.w × Side s.args.t s.args.h
+sides : (s : place.Start claims Pre Post clauses) → Side s.args.t s.args.w × Side s.args.t s.args.h
 sides s = (side _ _ s.requires.pic_h_value.1, side _ _ s.requires.pic_h_value.2)
 
 pub window_exceeds-requires : goal.window_exceeds-requires
@@ -19,7 +19,7 @@ window_exceeds-requires c =
 pub returns : goal.returns
 returns c =
     let a = c.args in
-    c.window_exceeds.ensures ∙ examined_is a.t a.pic-w a.pic-h a.gmv a.w a.h a.plane.now _ _ _ c.window.ensures (stride_is _ _ _ _ c.plane_config-c.ensures) c.rows_more-more.ensures
+    c.window_exceeds.ensures ∙ examined_is a.t a.pic_w a.pic_h a.gmv a.w a.h a.plane.now _ _ _ c.window.ensures (stride_is _ _ _ _ c.plane_config-c.ensures) c.rows_more-more.ensures
 
 pub overflow_add-w : goal.overflow_add-w
 overflow_add-w c = let z = sides c.before.before.before.before.before in record { fits = omega (arith, z.0.total, z.1.total, c.rows_more-more.ensures) }

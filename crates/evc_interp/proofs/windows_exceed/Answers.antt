@@ -11,9 +11,9 @@ use Rattle.evc_interp.proofs.Windows.{Side, side, stride_is, examined_asks, exam
 use Rattle.evc_interp.proofs.windows_exceed.Goals as goal
 use Rattle.evc_interp.proofs.windows_exceed.Lts as place
 use Rattle.evc_interp.proofs.windows_exceed.Reads.{Pre, Post}
-use Rattle.evc_interp.proofs.windows_exceed.Tie.{the-claims as claims}
+use Rattle.evc_interp.proofs.windows_exceed.Tie.{the-claims as claims, handed_clauses as clauses}
 
-sides : (s : place.Start claims Pre Post) → Side s.args.t s.args.w × Side s.args.t s.args.h
+sides : (s : place.Start claims Pre Post clauses) → Side s.args.t s.args.w × Side s.args.t s.args.h
 sides s = (side _ _ s.requires.pic_h_value.1, side _ _ s.requires.pic_h_value.2)
 
 pub window_exceeds-requires : goal.window_exceeds-requires
@@ -33,10 +33,10 @@ returns c =
     let a = c.args in
     ap₂ (λ (p q : Bool). p || q) (c.window_exceeds.ensures ∙ is c a.u.now) (c.window_exceeds-2.ensures ∙ is c a.v.now)
   where
-    is : (c : goal.After-window_exceeds-2) (s : List ℕ) → let a = c.args in exceeds s c.window-at.result c.plane_config-c.result.stride (a.w + c.rows_more-more.result) (a.h + c.rows_more-more.result) ≡ window_exceeds a.t a.pic-w a.pic-h a.gmv a.w a.h s
+    is : (c : goal.After-window_exceeds-2) (s : List ℕ) → let a = c.args in exceeds s c.window-at.result c.plane_config-c.result.stride (a.w + c.rows_more-more.result) (a.h + c.rows_more-more.result) ≡ window_exceeds a.t a.pic_w a.pic_h a.gmv a.w a.h s
     is c s =
         let a = c.args in
-        examined_is a.t a.pic-w a.pic-h a.gmv a.w a.h s _ _ _ c.window-at.ensures (stride_is _ _ _ _ c.plane_config-c.ensures) c.rows_more-more.ensures
+        examined_is a.t a.pic_w a.pic_h a.gmv a.w a.h s _ _ _ c.window-at.ensures (stride_is _ _ _ _ c.plane_config-c.ensures) c.rows_more-more.ensures
 
 pub overflow_add-n : goal.overflow_add-n
 overflow_add-n c = let z = sides c.before.before.before.before.before.before in record { fits = omega (arith, z.0.total, z.1.total, c.rows_more-more.ensures) }

@@ -15,7 +15,7 @@ use Rattle.evc_mc.proofs.Samples.{size_of, component_room}
 use Rattle.evc_mc.proofs.average_block.Goals as goal
 use Rattle.evc_mc.proofs.average_block.Lts as place
 use Rattle.evc_mc.proofs.average_block.Reads.{Pre, Post}
-use Rattle.evc_mc.proofs.average_block.Tie.{the-claims as claims}
+use Rattle.evc_mc.proofs.average_block.Tie.{the-claims as claims, handed_clauses as clauses}
 
 -- a component's samples as one run
 row_small : (b : EvcBlock) (d : List ℕ) (c : Component) (o : ℕ) → o ≡ offset_of c → BlockSmall b d → RowSmall d o (size_of b c)
@@ -61,7 +61,7 @@ module _ (b : EvcBlock) (p q : List ℕ) where
       ∙ plane cr d₂ r er (λ i. behind d₂ d₁ o (size_of b cb) r _ e₂ (omega arith) i ∙ behind d₁ p 0 (size_of b luma) r _ e₁ (omega arith) i)
       ∙ ap (with_component b cr (mean cr)) (e₂ ∙ plane cb d₁ o eo (λ i. behind d₁ p 0 (size_of b luma) o _ e₁ (omega arith) i) ∙ ap (with_component b cb (mean cb)) (e₁ ∙ plane luma p 0 refl (λ i. refl)))
 
-known : (s : place.Start claims Pre Post) → Sides s.args.b
+known : (s : place.Start claims Pre Post clauses) → Sides s.args.b
 known s = sides s.args.b s.requires.b_value.0
 
 pub average_plane-requires : goal.average_plane-requires

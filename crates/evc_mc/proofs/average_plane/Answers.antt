@@ -9,6 +9,9 @@ use Rattle.evc_int.specs.Lists.{with_row}
 use Rattle.evc_int.proofs.Lists.{row_step, row_done, with_row-out}
 use Rattle.evc_mc.specs.Block.{average}
 use Rattle.evc_mc.proofs.average_plane.Goals as goal
+use Rattle.evc_mc.proofs.average_plane.Lts as place
+use Rattle.evc_mc.proofs.average_plane.Reads.{Pre, Post}
+use Rattle.evc_mc.proofs.average_plane.Tie.{handed_clauses as clauses}
 
 -- the next sample is still the one of before
 still : (l l₀ : List ℕ) (o i : ℕ) (f : ℕ → ℕ) → l ≡ with_row l₀ o i f → get_or l (o + i) 0 ≡ get_or l₀ (o + i) 0
@@ -19,7 +22,7 @@ unfolding with_row
 loop-i-init c = (omega arith, refl, refl)
 
 -- both samples are at most 1023
-small : (c : goal.In-loop-i) → let i = c.loop-i.i in (get_or c.loop-i.pred0 (c.args.offset + i) 0 ≤ 1023) × (get_or c.args.pred1.now (c.args.offset + i) 0 ≤ 1023)
+small : (c : place.In-loop Pre Post clauses goal.the-invariant-loop-i goal.the-decreases-loop-i) → let i = c.loop-i.i in (get_or c.loop-i.pred0 (c.args.offset + i) 0 ≤ 1023) × (get_or c.args.pred1.now (c.args.offset + i) 0 ≤ 1023)
 small c =
     let i = c.loop-i.i in
     let lt : i < c.args.n = omega arith in

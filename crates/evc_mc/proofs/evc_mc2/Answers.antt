@@ -13,7 +13,7 @@ use Rattle.evc_mc.proofs.Answers.{silent, reports}
 use Rattle.evc_mc.proofs.evc_mc2.Goals as goal
 use Rattle.evc_mc.proofs.evc_mc2.Lts as place
 use Rattle.evc_mc.proofs.evc_mc2.Reads.{Pre, Post}
-use Rattle.evc_mc.proofs.evc_mc2.Tie.{the-claims as claims}
+use Rattle.evc_mc.proofs.evc_mc2.Tie.{the-claims as claims, handed_clauses as clauses}
 
 module _ (b : EvcBlock) (l m : RefPicList) (p q : List ℕ) where
   block_refused : (code : ℕ) → code ≡ first_of (block_checks b) → (code ≡ 0 → ⊥) → code ≡ mc2_code b l m p q
@@ -37,7 +37,7 @@ returns-then-block_code-ne0 c =
     let e = block_refused a.block l m a.pred0.now a.pred1.now _ c.block_code-block_code.ensures c.if-block_code-ne0.true in
     (silent _ _ _ _ _ e c.if-block_code-ne0.true _ c.refused.ensures, untouched a.block l m a.pred0.now a.pred1.now _ e c.if-block_code-ne0.true)
 
-good : (c : place.Else1 claims Pre Post) → first_of (block_checks c.args.block) ≡ 0
+good : (c : place.Else1 claims Pre Post clauses) → first_of (block_checks c.args.block) ≡ 0
 good c = sym c.block_code-block_code.ensures ∙ c.if-block_code-ne0.false
 
 pub mc2_code-code-requires : goal.mc2_code-code-requires
@@ -52,14 +52,14 @@ returns-then-code-ne0 c =
     let e = c.mc2_code-code.ensures in
     (silent _ _ _ _ _ e c.if-code-ne0.true _ c.refused-then-code-ne0.ensures, untouched a.block l m a.pred0.now a.pred1.now _ e c.if-code-ne0.true)
 
-accepted : (c : place.Else2 claims Pre Post) → let a = c.args in mc2_code a.block (ref_pic_list a.list0 a.y0.now a.u0.now a.v0.now) (ref_pic_list a.list1 a.y1.now a.u1.now a.v1.now) a.pred0.now a.pred1.now ≡ 0
+accepted : (c : place.Else2 claims Pre Post clauses) → let a = c.args in mc2_code a.block (ref_pic_list a.list0 a.y0.now a.u0.now a.v0.now) (ref_pic_list a.list1 a.y1.now a.u1.now a.v1.now) a.pred0.now a.pred1.now ≡ 0
 accepted c = sym c.mc2_code-code.ensures ∙ c.if-code-ne0.false
 
 pub predict_lists-requires : goal.predict_lists-requires
 predict_lists-requires c = record { gmv0_value = (c.clipped_place-gmv0.ensures, c.clipped_place-gmv1.ensures); pred1_value = accepted c.before.before.before }
 
 -- the blocks are predicted, and the reports are left
-checked : (c : place.After-slice_known4 claims Pre Post) → first_of (block_checks c.args.block) ≡ 0
+checked : (c : place.After-slice_known4 claims Pre Post clauses) → first_of (block_checks c.args.block) ≡ 0
 checked c = good c.before.before.before.before.before.before.before.before.before.before.before.before.before
 
 pub returns : goal.returns
@@ -72,10 +72,10 @@ returns c =
     )
 
 pub clipped_place-gmv0-requires : goal.clipped_place-gmv0-requires
-clipped_place-gmv0-requires c = allowed_block _ (good c.before.before)
+clipped_place-gmv0-requires c = let parts = allowed_block _ (good c.before.before) in record { allowed = parts.0; allowed_2 = parts.1 }
 
 pub clipped_place-gmv1-requires : goal.clipped_place-gmv1-requires
-clipped_place-gmv1-requires c = allowed_block _ (good c.before.before.before.before)
+clipped_place-gmv1-requires c = let parts = allowed_block _ (good c.before.before.before.before) in record { allowed = parts.0; allowed_2 = parts.1 }
 
 pub list_moved-requires : goal.list_moved-requires
 list_moved-requires c = checked c.before

@@ -12,7 +12,7 @@ use Rattle.evc_mc.proofs.Checks.{sides, plane_side, list_long}
 use Rattle.evc_mc.proofs.list_exceeds.Goals as goal
 use Rattle.evc_mc.proofs.list_exceeds.Lts as place
 use Rattle.evc_mc.proofs.list_exceeds.Reads.{Pre, Post}
-use Rattle.evc_mc.proofs.list_exceeds.Tie.{the-claims as claims}
+use Rattle.evc_mc.proofs.list_exceeds.Tie.{the-claims as claims, handed_clauses as clauses}
 
 module _ (b : EvcBlock) (l : RefPicList) where
   unused : l.list.used ≡ false → false ≡ list_exceeds b l
@@ -35,7 +35,7 @@ returns-then-not-list c =
     let a = c.args in
     unused a.b (ref_pic_list a.list a.y.now a.u.now a.v.now) (not-true _ c.if-not-list.true)
 
-used : (c : place.Else1 claims Pre Post) → c.args.list.used ≡ true
+used : (c : place.Else1 claims Pre Post clauses) → c.args.list.used ≡ true
 used c = not-false _ c.if-not-list.false
 
 pub window_exceeds-requires : goal.window_exceeds-requires

@@ -23,7 +23,7 @@ pub returns-then-not-list : goal.returns-then-not-list
 returns-then-not-list c = not_used _ _ _ c.if-not-list.true c.nothing_moved.ensures
 
 pub moved_mv-requires : goal.moved_mv-requires
-moved_mv-requires c = allowed_block _ c.requires
+moved_mv-requires c = let parts = allowed_block _ c.requires in record { allowed = parts.0; allowed_2 = parts.1 }
 
 pub returns : goal.returns
 returns c = used _ _ _ c.if-not-list.false c.moved_mv.ensures

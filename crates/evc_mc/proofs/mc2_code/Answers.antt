@@ -15,7 +15,7 @@ use Rattle.evc_mc.proofs.Checks.{sides}
 use Rattle.evc_mc.proofs.mc2_code.Goals as goal
 use Rattle.evc_mc.proofs.mc2_code.Lts as place
 use Rattle.evc_mc.proofs.mc2_code.Reads.{Pre, Post}
-use Rattle.evc_mc.proofs.mc2_code.Tie.{the-claims as claims}
+use Rattle.evc_mc.proofs.mc2_code.Tie.{the-claims as claims, handed_clauses as clauses}
 
 module _ (b : EvcBlock) (l m : RefPicList) (p q : List ℕ) where
   module _ (good : first_of (block_checks b) ≡ 0) where
@@ -48,11 +48,11 @@ either_is a b c d e f = ap₂ ◌||◌ e f
 pub returns-then-not-list0-list1 : goal.returns-then-not-list0-list1
 returns-then-not-list0-list1 c = code_3 _ _ _ _ _ c.requires.0 c.if-not-list0-list1.true
 
-picture : (c : place.Else1 claims Pre Post) → bad_picture c.args.b.pic_w c.args.b.pic_h ≡ false
+picture : (c : place.Else1 claims Pre Post clauses) → bad_picture c.args.b.pic_w c.args.b.pic_h ≡ false
 picture c = (sides _ c.requires.0).picture
 
 -- the tests of the code are those of the definition
-short : (c : place.After-list_short2 claims Pre Post) → let a = c.args in
+short : (c : place.After-list_short2 claims Pre Post clauses) → let a = c.args in
     (c.list_short.result || c.list_short-2.result || ltb (length a.pred0.now) pred_len || ltb (length a.pred1.now) pred_len)
     ≡ (list_short a.b (ref_pic_list a.list0 a.y0.now a.u0.now a.v0.now) || list_short a.b (ref_pic_list a.list1 a.y1.now a.u1.now a.v1.now) || ltb (length a.pred0.now) pred_len || ltb (length a.pred1.now) pred_len)
 short c =
@@ -63,7 +63,7 @@ pub returns-then-list_short-pred0 : goal.returns-then-list_short-pred0
 returns-then-list_short-pred0 c =
     code_4 _ _ _ _ _ c.requires.0 c.if-not-list0-list1.false (sym (short c.before.before) ∙ c.if-list_short-pred0.true)
 
-poc : (c : place.After-poc_exceeds2 claims Pre Post) → let a = c.args in
+poc : (c : place.After-poc_exceeds2 claims Pre Post clauses) → let a = c.args in
     (c.poc_exceeds.result || c.poc_exceeds-2.result) ≡ (poc_exceeds a.list0 || poc_exceeds a.list1)
 poc c = ap₂ ◌||◌ c.poc_exceeds.ensures c.poc_exceeds-2.ensures
 
@@ -72,7 +72,7 @@ returns-then-poc_exceeds c =
     code_5 _ _ _ _ _ c.requires.0 c.if-not-list0-list1.false (sym (short c.before.before.before.before.before) ∙ c.if-list_short-pred0.false) (sym (poc c.before.before) ∙ c.if-poc_exceeds.true)
 
 -- no plane is short
-long : (f : place.Else2 claims Pre Post) → let a = f.args in
+long : (f : place.Else2 claims Pre Post clauses) → let a = f.args in
     (list_short a.b (ref_pic_list a.list0 a.y0.now a.u0.now a.v0.now) ≡ false) × (list_short a.b (ref_pic_list a.list1 a.y1.now a.u1.now a.v1.now) ≡ false)
 long f = none_true _ _ (none_true _ _ (none_true _ _ (sym (short f.before) ∙ f.if-list_short-pred0.false)).0).0
 

@@ -16,4 +16,4 @@ short_is W H n m y u v e f = rw (e, f)
 pub returns : goal.returns
 returns c =
     let a = c.args in
-    short_is a.pic-w a.pic-h _ _ a.y.now a.u.now a.v.now c.plane_len-luma.ensures c.plane_len-chroma.ensures
+    short_is a.pic_w a.pic_h _ _ a.y.now a.u.now a.v.now c.plane_len-luma.ensures c.plane_len-chroma.ensures

@@ -23,7 +23,7 @@ use Rattle.evc_mc.proofs.Samples.{component_room, component_end}
 use Rattle.evc_mc.proofs.predict_list.Goals as goal
 use Rattle.evc_mc.proofs.predict_list.Lts as place
 use Rattle.evc_mc.proofs.predict_list.Reads.{Pre, Post}
-use Rattle.evc_mc.proofs.predict_list.Tie.{the-claims as claims}
+use Rattle.evc_mc.proofs.predict_list.Tie.{the-claims as claims, handed_clauses as clauses}
 
 module _ (b : EvcBlock) (l : RefPicList) where
   unused : (second : Bool) (p0 p1 : List ℕ) → l.list.used ≡ false → (p0 ≡ cond second p0 (with_list b l p0)) × (p1 ≡ cond second (with_list b l p1) p1)
@@ -79,10 +79,9 @@ module _ (b : EvcBlock) (l : RefPicList) where
 
 pub returns-then-not-list : goal.returns-then-not-list
 returns-then-not-list c =
-    let a = c.args in
-    unused a.b (ref_pic_list a.list a.y.now a.u.now a.v.now) a.second a.pred0.now a.pred1.now (not-true _ c.if-not-list.true)
+    let a = c.args in let parts = unused a.b (ref_pic_list a.list a.y.now a.u.now a.v.now) a.second a.pred0.now a.pred1.now (not-true _ c.if-not-list.true) in record { pred0_after = parts.0; pred1_after = parts.1 }
 
-used : (p : place.After-position_of claims Pre Post) → p.args.list.used ≡ true
+used : (p : place.After-position_of claims Pre Post clauses) → p.args.list.used ≡ true
 used p = not-false _ p.if-not-list.false
 
 pub predict_component-requires : goal.predict_component-requires
@@ -108,10 +107,9 @@ predict_component-requires-3 c =
 
 pub returns : goal.returns
 returns c =
-    let a = c.args in
-    done a.b (ref_pic_list a.list a.y.now a.u.now a.v.now) a.gmv c.requires.b_value.1 _ _ c.position_of-luma.ensures c.position_of-chroma.ensures a.second _ _ a.pred0.now a.pred1.now _ _ _ _ _ _ (used c.before.before.before.before.before.before.before.before.before.before.before.before.before.before.before.before.before.before.before.before.before.before.before.before.before.before)
+    let a = c.args in let parts = done a.b (ref_pic_list a.list a.y.now a.u.now a.v.now) a.gmv c.requires.b_value.1 _ _ c.position_of-luma.ensures c.position_of-chroma.ensures a.second _ _ a.pred0.now a.pred1.now _ _ _ _ _ _ (used c.before.before.before.before.before.before.before.before.before.before.before.before.before.before.before.before.before.before.before.before.before.before.before.before.before.before)
     c.cu_dim_offset-offset_u.ensures c.cu_dim_offset-offset_v.ensures
-    c.predict_component.ensures.pred0_after c.predict_component.ensures.pred1_after c.predict_component-2.ensures.pred0_after c.predict_component-2.ensures.pred1_after c.predict_component-3.ensures.pred0_after c.predict_component-3.ensures.pred1_after
+    c.predict_component.ensures.pred0_after c.predict_component.ensures.pred1_after c.predict_component-2.ensures.pred0_after c.predict_component-2.ensures.pred1_after c.predict_component-3.ensures.pred0_after c.predict_component-3.ensures.pred1_after in record { pred0_after = parts.0; pred1_after = parts.1 }
 
 pub position_of-luma-requires : goal.position_of-luma-requires
 position_of-luma-requires c = (sides c.args.b c.requires.b_value.0).picture

@@ -10,9 +10,9 @@ use Rattle.evc_mc.proofs.Predictions.{not_same, same, stands, single, both_small
 use Rattle.evc_mc.proofs.predict_lists.Goals as goal
 use Rattle.evc_mc.proofs.predict_lists.Lts as place
 use Rattle.evc_mc.proofs.predict_lists.Reads.{Pre, Post}
-use Rattle.evc_mc.proofs.predict_lists.Tie.{the-claims as claims}
+use Rattle.evc_mc.proofs.predict_lists.Tie.{the-claims as claims, handed_clauses as clauses}
 
-good : (s : place.Start claims Pre Post) → let a = s.args in Accepted a.b (ref_pic_list a.list0 a.y0.now a.u0.now a.v0.now) (ref_pic_list a.list1 a.y1.now a.u1.now a.v1.now) a.pred0.now a.pred1.now
+good : (s : place.Start claims Pre Post clauses) → let a = s.args in Accepted a.b (ref_pic_list a.list0 a.y0.now a.u0.now a.v0.now) (ref_pic_list a.list1 a.y1.now a.u1.now a.v1.now) a.pred0.now a.pred1.now
 good s = let a = s.args in accepts a.b (ref_pic_list a.list0 a.y0.now a.u0.now a.v0.now) (ref_pic_list a.list1 a.y1.now a.u1.now a.v1.now) a.pred0.now a.pred1.now s.requires.pred1_value
 
 pub predict_list-requires : goal.predict_list-requires
@@ -22,7 +22,7 @@ predict_list-requires c =
     let e = c.requires.gmv0_value.0 in record { b_value = (g.block, e); list_examined = list_examined a.b (ref_pic_list a.list0 a.y0.now a.u0.now a.v0.now) _ g.l_short g.l_exceeds e; pred_len_in_bounds = (g.p_long, g.q_long) }
 
 -- the test of the code is that of the definition
-motion : (c : place.After-same_motion claims Pre Post) → let a = c.args in c.same_motion.result ≡ same_motion a.b a.list0 a.list1
+motion : (c : place.After-same_motion claims Pre Post clauses) → let a = c.args in c.same_motion.result ≡ same_motion a.b a.list0 a.list1
 motion c =
     let a = c.args in
     same_motion_is a.b a.list0 a.list1 _ _ _ c.requires.gmv0_value.0 c.requires.gmv0_value.1 c.same_motion.ensures
@@ -31,8 +31,7 @@ pub returns-then-both-same_motion : goal.returns-then-both-same_motion
 returns-then-both-same_motion c =
     let a = c.args in
     let t = both_true (a.list0.used && a.list1.used) c.same_motion.result c.if-both-same_motion.true in
-    let p = c.predict_list.ensures in
-    stands a.b (ref_pic_list a.list0 a.y0.now a.u0.now a.v0.now) (ref_pic_list a.list1 a.y1.now a.u1.now a.v1.now) a.pred0.now a.pred1.now _ _ p.0 p.1 (both_true _ _ t.0).0 (same a.b (ref_pic_list a.list0 a.y0.now a.u0.now a.v0.now) (ref_pic_list a.list1 a.y1.now a.u1.now a.v1.now) (sym (motion c.before.before) ∙ t.1))
+    let p = c.predict_list.ensures in let parts = stands a.b (ref_pic_list a.list0 a.y0.now a.u0.now a.v0.now) (ref_pic_list a.list1 a.y1.now a.u1.now a.v1.now) a.pred0.now a.pred1.now _ _ p.0 p.1 (both_true _ _ t.0).0 (same a.b (ref_pic_list a.list0 a.y0.now a.u0.now a.v0.now) (ref_pic_list a.list1 a.y1.now a.u1.now a.v1.now) (sym (motion c.before.before) ∙ t.1)) in record { pred0_after = parts.0; pred1_after = parts.1 }
 
 pub predict_list-requires-2 : goal.predict_list-requires-2
 predict_list-requires-2 c =
@@ -47,8 +46,7 @@ returns-else-both c =
     let a = c.args in
     let g = good c.before.before.before.before.before.before.before.before.before.before.before.before.before.before.before.before.before.before.before.before.before.before.before.before.before.before.before.before in
     let p = c.predict_list.ensures in
-    let q = c.predict_list-2.ensures in
-    single a.b (ref_pic_list a.list0 a.y0.now a.u0.now a.v0.now) (ref_pic_list a.list1 a.y1.now a.u1.now a.v1.now) a.pred0.now a.pred1.now _ _ p.0 p.1 _ _ q.0 q.1 g.some_used c.if-both.false
+    let q = c.predict_list-2.ensures in let parts = single a.b (ref_pic_list a.list0 a.y0.now a.u0.now a.v0.now) (ref_pic_list a.list1 a.y1.now a.u1.now a.v1.now) a.pred0.now a.pred1.now _ _ p.0 p.1 _ _ q.0 q.1 g.some_used c.if-both.false in record { pred0_after = parts.0; pred1_after = parts.1 }
 
 -- two predictions
 pub average_block-requires : goal.average_block-requires
@@ -73,6 +71,5 @@ returns-then-both c =
     let y = c.predict_list-2 in
     let both = c.if-both.true in
     let t = both_true a.list0.used a.list1.used both in
-    let differs = sym (motion c.before.before.before.before.before.before.before.before.before.before.before.before.before.before) ∙ and_false_right (a.list0.used && a.list1.used) _ c.if-both-same_motion.false both in
-    averaged a.b (ref_pic_list a.list0 a.y0.now a.u0.now a.v0.now) (ref_pic_list a.list1 a.y1.now a.u1.now a.v1.now) a.pred0.now a.pred1.now _ _ x.ensures.0 x.ensures.1 _ _ y.ensures.0 y.ensures.1 t.0 t.1
-    (sides a.b g.block) g.p_long g.q_long _ (not_same a.b (ref_pic_list a.list0 a.y0.now a.u0.now a.v0.now) (ref_pic_list a.list1 a.y1.now a.u1.now a.v1.now) both differs) c.average_block.ensures
+    let differs = sym (motion c.before.before.before.before.before.before.before.before.before.before.before.before.before.before) ∙ and_false_right (a.list0.used && a.list1.used) _ c.if-both-same_motion.false both in let parts = averaged a.b (ref_pic_list a.list0 a.y0.now a.u0.now a.v0.now) (ref_pic_list a.list1 a.y1.now a.u1.now a.v1.now) a.pred0.now a.pred1.now _ _ x.ensures.0 x.ensures.1 _ _ y.ensures.0 y.ensures.1 t.0 t.1
+    (sides a.b g.block) g.p_long g.q_long _ (not_same a.b (ref_pic_list a.list0 a.y0.now a.u0.now a.v0.now) (ref_pic_list a.list1 a.y1.now a.u1.now a.v1.now) both differs) c.average_block.ensures in record { pred0_after = parts.0; pred1_after = parts.1 }

@@ -73,20 +73,14 @@ mv_at-cand-requires c =
     (omega arith, col_reaches c.args.b _ _ _ c.requires.lidx_bound.1 _ (inside c.before.before.before.before.before.before.before.before.before.before.before.before) c.if-has_col.true)
 
 -- the three neighbours, with any fourth that is the collocated one
-with_fourth : (r : place.After-neighbour_mv3 claims Pre Post clauses) (mv : EvcMv) → let a = (first r).before.args in mv ≡ cond a.has_col (mv_at a.col_mv.now (scup a.b) 0) a.old.collocated → record { left = r.before.before.before.before.before.before.neighbour_mv-left.result; up = r.before.before.before.before.neighbour_mv-up.result; up_right = r.neighbour_mv-up_right.result; collocated = mv; refi = pos 0 ∷ pos 0 ∷ pos 0 ∷ pos 0 ∷ [] } ≡ candidates a.b a.lidx a.avail a.map_mv.now a.has_col a.col_mv.now a.old
+with_fourth : (r : place.After-neighbour_mv3 claims Pre Post clauses) (mv : EvcMv) → let a = r.args in mv ≡ cond a.has_col (mv_at a.col_mv.now (scup a.b) 0) a.old.collocated → record { left = r.neighbour_mv-left.result; up = r.neighbour_mv-up.result; up_right = r.neighbour_mv-up_right.result; collocated = mv; refi = pos 0 ∷ pos 0 ∷ pos 0 ∷ pos 0 ∷ [] } ≡ candidates a.b a.lidx a.avail a.map_mv.now a.has_col a.col_mv.now a.old
 with_fourth r mv q =
-    let g = r.before.before.before in
-    let u = g.before in
-    let l = u.before.before in
-    let s = l.before.before in
-    let w = s.before in
-    let k = w.before in
-    let a = k.before.args in
-    let e = k.unit_at-scup.ensures in
+    let a = r.args in
+    let e = r.unit_at-scup.ensures in
     made a.b a.lidx a.avail a.map_mv.now a.has_col a.col_mv.now a.old _ _ _ _
-    (left_is a.b a.lidx a.avail a.map_mv.now _ _ _ l.before.GET_AVAIL_FLAG.ensures e l.neighbour_mv-left.ensures)
-    (up_is a.b a.lidx a.avail a.map_mv.now _ _ _ _ u.before.GET_AVAIL_FLAG-2.ensures e w.scu-w_scu.ensures u.neighbour_mv-up.ensures)
-    (up_right_is a.b a.lidx a.avail a.map_mv.now k.before.requires.allowed.0 (up_right_before _ _ k.before.requires.allowed.0 k.before.requires.allowed.1 k.before.requires.lidx_bound.2) _ _ _ _ _ g.GET_AVAIL_FLAG-3.ensures e w.scu-w_scu.ensures s.scu-scuw.ensures r.neighbour_mv-up_right.ensures)
+    (left_is a.b a.lidx a.avail a.map_mv.now _ _ _ r.GET_AVAIL_FLAG.ensures e r.neighbour_mv-left.ensures)
+    (up_is a.b a.lidx a.avail a.map_mv.now _ _ _ _ r.GET_AVAIL_FLAG-2.ensures e r.scu-w_scu.ensures r.neighbour_mv-up.ensures)
+    (up_right_is a.b a.lidx a.avail a.map_mv.now r.requires.allowed.0 (up_right_before _ _ r.requires.allowed.0 r.requires.allowed.1 r.requires.lidx_bound.2) _ _ _ _ _ r.GET_AVAIL_FLAG-3.ensures e r.scu-w_scu.ensures r.scu-scuw.ensures r.neighbour_mv-up_right.ensures)
     q
 
 pub returns-then-has_col : goal.returns-then-has_col

@@ -9,14 +9,14 @@ use Rattle.evc_pad.proofs.Laws.{accepts, after}
 use Rattle.evc_pad.proofs.pad.Goals as goal
 use Rattle.evc_pad.proofs.pad.Lts as place
 use Rattle.evc_pad.proofs.pad.Reads.{Pre, Post}
-use Rattle.evc_pad.proofs.pad.Tie.{the-claims as claims}
+use Rattle.evc_pad.proofs.pad.Tie.{the-claims as claims, handed_clauses as clauses}
 
 module _ (t : PlaneType) (W H : ℕ) (s : List ℕ) where
   untouched : (code : ℕ) → code ≡ pad_code t W H s → (code ≡ 0 → ⊥) → s ≡ pad_after t W H s
   unfolding pad_after
   untouched code e n = rw (sym e, ne_eqb code 0 n)
 
-accepted : (c : place.Else1 claims Pre Post) → pad_code c.args.t c.args.pic_w c.args.pic_h c.args.plane.now ≡ 0
+accepted : (c : place.Else1 claims Pre Post clauses) → pad_code c.args.t c.args.pic_w c.args.pic_h c.args.plane.now ≡ 0
 accepted c = sym c.pad_code-code.ensures ∙ c.if-code-ne0.false
 
 pub returns-then-code-ne0 : goal.returns-then-code-ne0

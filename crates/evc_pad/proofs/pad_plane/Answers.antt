@@ -17,7 +17,7 @@ use Rattle.evc_pad.proofs.Padding.{filled_left, filled_right, copied_up, copied_
 use Rattle.evc_pad.proofs.pad_plane.Goals as goal
 use Rattle.evc_pad.proofs.pad_plane.Lts as place
 use Rattle.evc_pad.proofs.pad_plane.Reads.{Pre, Post}
-use Rattle.evc_pad.proofs.pad_plane.Tie.{the-claims as claims}
+use Rattle.evc_pad.proofs.pad_plane.Tie.{the-claims as claims, handed_clauses as clauses}
 
 module _ (t : PlaneType) (W H : ℕ) (c : PlaneConfig) (e : c ≡ config_of t W H) where
   abbrev step : (ℕ → ℕ → ℕ → ℕ → ℕ → List ℕ → List ℕ) → List ℕ → List ℕ
@@ -31,16 +31,16 @@ module _ (t : PlaneType) (W H : ℕ) (c : PlaneConfig) (e : c ≡ config_of t W 
       ∙ steps_pad c.yorigin c.xorigin c.width c.height c.stride s (omega arith) (omega arith) (omega arith) (omega arith) (omega arith)
       ∙ ap (λ (z : PlaneConfig). with_block s 0 z.stride z.stride (z.yorigin + z.height + z.yorigin) (held z.yorigin z.xorigin z.width z.height z.stride s)) e
 
-known : (c : place.After-plane_config claims Pre Post) → Room c.plane_config-c.result (length c.args.plane.now)
+known : (c : place.After-plane_config claims Pre Post clauses) → Room c.plane_config-c.result (length c.args.plane.now)
 known c = room _ _ _ _ _ c.plane_config-c.ensures c.requires.pic_h_value c.requires.pic_h_in_bounds
 
-length₁ : (c : goal.After-pad_columns-arg-2-1) → length c.pad_columns.new.0 ≡ length c.args.plane.now
+length₁ : (c : place.After-pad_columns-arg2 claims Pre Post clauses) → length c.pad_columns.new.0 ≡ length c.args.plane.now
 length₁ c = c.pad_columns.auto.0
 
-length₂ : (c : goal.After-pad_rows-arg-1) → length c.pad_columns-2.new.0 ≡ length c.args.plane.now
+length₂ : (c : place.After-pad_rows-arg claims Pre Post clauses) → length c.pad_columns-2.new.0 ≡ length c.args.plane.now
 length₂ c = c.pad_columns-2.auto.0 ∙ length₁ c.before.before.before.before
 
-length₃ : (c : goal.After-pad_rows-arg-2-1) → length c.pad_rows.new.0 ≡ length c.args.plane.now
+length₃ : (c : place.After-pad_rows-arg2 claims Pre Post clauses) → length c.pad_rows.new.0 ≡ length c.args.plane.now
 length₃ c = c.pad_rows.auto.0 ∙ length₂ c.before.before.before.before
 
 pub pad_columns-requires : goal.pad_columns-requires

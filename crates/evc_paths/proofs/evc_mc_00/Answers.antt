@@ -12,7 +12,7 @@ use Rattle.evc_paths.proofs.evc_mc_00.Reads.{Pre, Post}
 use Rattle.evc_paths.proofs.evc_mc_00.Tie.{the-claims as claims}
 
 -- row y lies within both
-rows : (c : place.In-loop claims Pre Post goal.the-invariant-loop-y goal.the-decreases-loop-y) → let a = c.args in let y = c.loop.y in (a.at + y * a.stride + a.w ≤ length a.s.now) × (y * a.w + a.w ≤ length a.pred.now)
+rows : (c : place.In-loop claims Pre Post goal.the-invariant-loop-y goal.the-decreases-loop-y) → let a = c.args in let y = c.loop-y.y in (a.at + y * a.stride + a.w ≤ length a.s.now) × (y * a.w + a.w ≤ length a.pred.now)
 rows c =
     let a = c.args in
     let p = c.requires in
@@ -42,7 +42,7 @@ copy_row-requires c =
 
 pub loop-y-preserved : goal.loop-y-preserved
 loop-y-preserved c =
-    let l = c.loop in (
+    let l = c.loop-y in (
       (let t = c.loop-y-test.true in omega arith),
       c.copy_row.auto.1.1.0 ∙ l.invariant.1,
       block_step _ _ _ _ _ _ _ _ l.invariant.2 (row_copied _ _ _ _ _ _ _ _ c.row_of.ensures c.copy_row.ensures),

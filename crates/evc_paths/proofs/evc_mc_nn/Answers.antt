@@ -12,9 +12,9 @@ groups-requires c =
 pub groups-requires-in-Y : goal.groups-requires-in-Y
 groups-requires-in-Y c =
     let p = c.requires.w_value in
-    let f = stage_fits c.args.t Y c.args.h c.enum_told-1.given.1 p.3 in record { t_in_bounds = c.requires.t_in_bounds; w_value = (p.0, p.1, p.2, f.0, p.4, p.5, f.1); within = c.requires.within }
+    let f = stage_fits c.args.t Y c.args.h c.in-Y.is.1 p.3 in record { t_in_bounds = c.requires.t_in_bounds; w_value = (p.0, p.1, p.2, f.0, p.4, p.5, f.1); within = c.requires.within }
 
 pub groups-requires-in-UV : goal.groups-requires-in-UV
 groups-requires-in-UV c =
     let p = c.requires.w_value in
-    let f = stage_fits c.args.t UV c.args.h c.enum_told-in-UV-1.given.1 p.3 in record { t_in_bounds = c.requires.t_in_bounds; w_value = (p.0, p.1, p.2, f.0, p.4, p.5, f.1); within = c.requires.within }
+    let f = stage_fits c.args.t UV c.args.h c.in-UV.is p.3 in record { t_in_bounds = c.requires.t_in_bounds; w_value = (p.0, p.1, p.2, f.0, p.4, p.5, f.1); within = c.requires.within }

@@ -65,12 +65,12 @@ loop-cg-init c = let a = c.args in (omega arith, refl, refl, sym (columns_none a
 
 pub single8_rows-requires-in-loop-cg : goal.single8_rows-requires-in-loop-cg
 single8_rows-requires-in-loop-cg c =
-    let l = c.loop in
+    let l = c.loop-cg in
     group c.before.before.before.before.before.before l.cg (c.args.at + l.cg) l.pred c.loop-cg-test.true refl l.invariant.2
 
 pub loop-cg-preserved : goal.loop-cg-preserved
 loop-cg-preserved c =
-    let l = c.loop in
+    let l = c.loop-cg in
     let a = c.args in
     let t = c.loop-cg-test.true in (
       t,

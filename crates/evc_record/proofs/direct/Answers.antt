@@ -6,7 +6,7 @@ use Rattle.evc_record.proofs.direct.Goals as goal
 pub returns-then-code-ne0 : goal.returns-then-code-ne0
 returns-then-code-ne0 c =
     let a = c.args in
-    refusal a.b a.p a.has-col a.col-mv.now _ c.direct_code-code.ensures c.if-code-ne0.true
+    refusal a.b a.p a.has_col a.col_mv.now _ c.direct_code-code.ensures c.if-code-ne0.true
 
 pub direct_mv-requires : goal.direct_mv-requires
 direct_mv-requires c = sym c.direct_code-code.ensures ∙ c.if-code-ne0.false
@@ -14,4 +14,4 @@ direct_mv-requires c = sym c.direct_code-code.ensures ∙ c.if-code-ne0.false
 pub returns : goal.returns
 returns c =
     let a = c.args in
-    done a.b a.p a.has-col a.col-mv.now _ (sym c.direct_code-code.ensures ∙ c.if-code-ne0.false) c.direct_mv.ensures
+    done a.b a.p a.has_col a.col_mv.now _ (sym c.direct_code-code.ensures ∙ c.if-code-ne0.false) c.direct_mv.ensures

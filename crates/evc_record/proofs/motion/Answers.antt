@@ -33,7 +33,7 @@ pub direct-requires : goal.direct-requires
 direct-requires c = search rules
 
 pub returns-then-r-eq3 : goal.returns-then-r-eq3
-returns-then-r-eq3 c = of_kind_3 _ _ _ _ _ _ _ c.if-r-eq3.true c.Block-of.ensures c.pocs_of.ensures c.direct.ensures
+returns-then-r-eq3 c = of_kind_3 _ _ _ _ _ _ _ c.if-r-eq3.true c.block_of.ensures c.pocs_of.ensures c.direct.ensures
 
 pub returns : goal.returns
 returns c = own _ _ _ _ c.if-r-eq3.false

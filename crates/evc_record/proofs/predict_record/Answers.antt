@@ -23,6 +23,5 @@ shape_of-pred1 c = search rules
 
 pub returns : goal.returns
 returns c =
-    let a = c.args in
-    predicted _ _ _ _ _ _ a.y0.now a.u0.now a.v0.now a.y1.now a.u1.now a.v1.now a.pred0.now a.pred1.now _ _ c.requires.0 c.requires.1
-    c.Block-of.ensures c.list0-l0.ensures c.list1-l1.ensures c.evc_mc2.ensures.result_value c.evc_mc2.ensures.pred0_after
+    let a = c.args in let parts = predicted _ _ _ _ _ _ a.y0.now a.u0.now a.v0.now a.y1.now a.u1.now a.v1.now a.pred0.now a.pred1.now _ _ c.requires.0 c.requires.1
+    c.block_of-b.ensures c.list0-l0.ensures c.list1-l1.ensures c.evc_mc2.ensures.result_value c.evc_mc2.ensures.pred0_after in record { result_value = parts.0; pred0_after = parts.1 }

@@ -9,17 +9,17 @@ use Rattle.evc_record.proofs.Places.{column_small, row_small, row_width, block_w
 use Rattle.evc_record.proofs.put_component.Goals as goal
 use Rattle.evc_record.proofs.put_component.Lts as place
 use Rattle.evc_record.proofs.put_component.Reads.{Pre, Post}
-use Rattle.evc_record.proofs.put_component.Tie.{the-claims as claims}
+use Rattle.evc_record.proofs.put_component.Tie.{the-claims as claims, handed_clauses as clauses}
 
 -- the place in the plane, with its room
-placed : (c : place.After-struct_known3 claims Pre Post) → let a = c.args in let p = c.plane_config-c.result in
+placed : (c : place.After-struct_known3 claims Pre Post clauses) → let a = c.args in let p = c.plane_config-c.result in
     ((p.yorigin + c.side-2.result) * p.stride + (p.xorigin + c.side.result) + c.side-h.result * p.stride + c.side-w.result ≤ length a.plane.now)
     × (p.xorigin + c.side.result ≤ 8208) × (p.yorigin + c.side-2.result ≤ 8208)
 placed c =
     let a = c.args in
     block_within a.t a.b c.requires.b_value _ c.plane_config-c.ensures _ _ _ _ c.side.ensures c.side-2.ensures c.side-w.ensures c.side-h.ensures (length a.plane.now) c.requires.w_in_bounds.1
 
-room : (s : place.Start claims Pre Post) → length s.args.plane.now < 18446744073709551616
+room : (s : place.Start claims Pre Post clauses) → length s.args.plane.now < 18446744073709551616
 room s = omega arith
 
 pub plane_config-c-requires : goal.plane_config-c-requires

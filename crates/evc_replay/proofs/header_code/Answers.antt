@@ -16,11 +16,11 @@ picture c = sym c.bad_picture.ensures ∙ c.if-bad_picture.false
 
 -- the test of the code is that of the definition
 test : (c : place.After-map_short claims Pre Post) → let a = c.args in
-    (c.planes_short.result || c.planes_short-2.result || c.planes_short-3.result || a.has-col && c.map_short.result)
-    ≡ short c.read_header-h.result (planes a.y0.now a.u0.now a.v0.now) (planes a.y1.now a.u1.now a.v1.now) (planes a.y.now a.u.now a.v.now) a.has-col a.col-mv.now
+    (c.planes_short.result || c.planes_short-2.result || c.planes_short-3.result || a.has_col && c.map_short.result)
+    ≡ short c.read_header-h.result (planes a.y0.now a.u0.now a.v0.now) (planes a.y1.now a.u1.now a.v1.now) (planes a.y.now a.u.now a.v.now) a.has_col a.col_mv.now
 test c =
     let a = c.args in
-    tested c.read_header-h.result (planes a.y0.now a.u0.now a.v0.now) (planes a.y1.now a.u1.now a.v1.now) (planes a.y.now a.u.now a.v.now) a.has-col a.col-mv.now _ _ _ _
+    tested c.read_header-h.result (planes a.y0.now a.u0.now a.v0.now) (planes a.y1.now a.u1.now a.v1.now) (planes a.y.now a.u.now a.v.now) a.has_col a.col_mv.now _ _ _ _
     c.planes_short.ensures c.planes_short-2.ensures c.planes_short-3.ensures c.map_short.ensures
 
 pub returns-then-trace-lt-HEADER_LEN : goal.returns-then-trace-lt-HEADER_LEN
@@ -30,7 +30,7 @@ returns-then-trace-lt-HEADER_LEN c =
     let q = planes a.y1.now a.u1.now a.v1.now in
     let t = planes a.y.now a.u.now a.v.now in
     let s = a.trace.now in
-    code_11 s p q a.has-col a.col-mv.now t c.if-trace-lt-HEADER_LEN.true
+    code_11 s p q a.has_col a.col_mv.now t c.if-trace-lt-HEADER_LEN.true
 
 pub is_trace-requires : goal.is_trace-requires
 is_trace-requires c = search rules
@@ -42,7 +42,7 @@ returns-then-not-is_trace c =
     let q = planes a.y1.now a.u1.now a.v1.now in
     let t = planes a.y.now a.u.now a.v.now in
     let s = a.trace.now in
-    code_10 s p q a.has-col a.col-mv.now t c.if-trace-lt-HEADER_LEN.false (ap not (sym c.is_trace.ensures) ∙ c.if-not-is_trace.true)
+    code_10 s p q a.has_col a.col_mv.now t c.if-trace-lt-HEADER_LEN.false (ap not (sym c.is_trace.ensures) ∙ c.if-not-is_trace.true)
 
 pub read_header-h-requires : goal.read_header-h-requires
 read_header-h-requires c = search rules
@@ -60,7 +60,7 @@ returns-then-bad_picture c =
     let l = c.if-trace-lt-HEADER_LEN.false in
     let m = ap not (sym c.is_trace.ensures) ∙ c.if-not-is_trace.false in
     let eh = sym c.read_header-h.ensures in
-    code_1 s p q a.has-col a.col-mv.now t l m _ eh (sym c.bad_picture.ensures ∙ c.if-bad_picture.true)
+    code_1 s p q a.has_col a.col_mv.now t l m _ eh (sym c.bad_picture.ensures ∙ c.if-bad_picture.true)
 
 pub planes_short-requires : goal.planes_short-requires
 planes_short-requires c = picture c.before
@@ -84,7 +84,7 @@ returns-then-planes_short-has_col c =
     let l = c.if-trace-lt-HEADER_LEN.false in
     let m = ap not (sym c.is_trace.ensures) ∙ c.if-not-is_trace.false in
     let eh = sym c.read_header-h.ensures in
-    code_4 s p q a.has-col a.col-mv.now t l m _ eh (picture c.before.before.before.before.before.before) (sym (test c.before.before) ∙ c.if-planes_short-has_col.true)
+    code_4 s p q a.has_col a.col_mv.now t l m _ eh (picture c.before.before.before.before.before.before) (sym (test c.before.before) ∙ c.if-planes_short-has_col.true)
 
 pub returns : goal.returns
 returns c =
@@ -96,4 +96,4 @@ returns c =
     let l = c.if-trace-lt-HEADER_LEN.false in
     let m = ap not (sym c.is_trace.ensures) ∙ c.if-not-is_trace.false in
     let eh = sym c.read_header-h.ensures in
-    code_0 s p q a.has-col a.col-mv.now t l m _ eh (picture c.before.before.before.before.before.before) (sym (test c.before.before) ∙ c.if-planes_short-has_col.false)
+    code_0 s p q a.has_col a.col_mv.now t l m _ eh (picture c.before.before.before.before.before.before) (sym (test c.before.before) ∙ c.if-planes_short-has_col.false)
