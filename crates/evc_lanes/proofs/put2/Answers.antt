@@ -4,8 +4,5 @@ use lib.ListN.{length-set}
 use Rattle.evc_lanes.proofs.Lanes.{two_lanes}
 use Rattle.evc_lanes.proofs.put2.Goals as goal
 
-pub bounds-d-to-2 : goal.bounds-d-to-2
-bounds-d-to-2 c = simp length-set (omega arith)
-
 pub returns : goal.returns
 returns c f p q = two_lanes _ _ f _ _ p q

@@ -22,7 +22,7 @@ unfolding with_row
 loop-i-init c = (omega arith, refl, refl)
 
 -- both samples are at most 1023
-small : (c : place.In-loop Pre Post clauses goal.the-invariant-loop-i goal.the-decreases-loop-i) → let i = c.loop-i.i in (get_or c.loop-i.pred0 (c.args.offset + i) 0 ≤ 1023) × (get_or c.args.pred1.now (c.args.offset + i) 0 ≤ 1023)
+small : (c : place.In-loop Pre Post goal.the-invariant-loop-i goal.the-decreases-loop-i clauses) → let i = c.loop-i.i in (get_or c.loop-i.pred0 (c.args.offset + i) 0 ≤ 1023) × (get_or c.args.pred1.now (c.args.offset + i) 0 ≤ 1023)
 small c =
     let i = c.loop-i.i in
     let lt : i < c.args.n = omega arith in

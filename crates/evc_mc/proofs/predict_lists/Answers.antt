@@ -38,7 +38,7 @@ predict_list-requires-2 c =
     let a = c.args in
     let g = good c.before.before.before.before.before.before.before.before.before.before.before.before.before.before.before.before.before.before.before.before.before.before in
     let e = c.requires.gmv0_value.1 in
-    let n = c.predict_list.auto.1.1.1.1.1.1 in record { b_value = (g.block, e); list_examined = list_examined a.b (ref_pic_list a.list1 a.y1.now a.u1.now a.v1.now) _ g.m_short g.m_exceeds e; pred_len_in_bounds = (omega (arith, n.0, g.p_long), omega (arith, n.1.0, g.q_long)) }
+    let n = c.predict_list.auto.pred0 in record { b_value = (g.block, e); list_examined = list_examined a.b (ref_pic_list a.list1 a.y1.now a.u1.now a.v1.now) _ g.m_short g.m_exceeds e; pred_len_in_bounds = (omega (arith, n.0, g.p_long), omega (arith, n.1.0, g.q_long)) }
 
 -- one list is in use
 pub returns-else-both : goal.returns-else-both

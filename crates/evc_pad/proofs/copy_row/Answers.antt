@@ -23,33 +23,3 @@ pub loop-x-preserved : goal.loop-x-preserved
 loop-x-preserved c =
     let i = c.loop-x.invariant in
     (omega arith, simp length-set i.1, row_step _ _ _ _ _ _ i.2 (read _ _ _ _ _ _ _ i.2 c.loop-x-test.true c.requires.fact))
-
-pub returns : goal.returns
-returns c = let i = c.loop-x.invariant in row_done _ _ _ _ _ _ i.2 i.0 c.loop-x-test.false
-
-pub overflow_add-plane : goal.overflow_add-plane
-overflow_add-plane c = omega arith
-
-pub offset_bounds-plane-from : goal.offset_bounds-plane-from
-offset_bounds-plane-from c = omega arith
-
-pub bounds-plane-from : goal.bounds-plane-from
-bounds-plane-from c = omega arith
-
-pub overflow_add-plane-in-loop-x : goal.overflow_add-plane-in-loop-x
-overflow_add-plane-in-loop-x c = omega arith
-
-pub offset_bounds-plane-to : goal.offset_bounds-plane-to
-offset_bounds-plane-to c = omega arith
-
-pub bounds-plane-to : goal.bounds-plane-to
-bounds-plane-to c = omega arith
-
-pub overflow_step-x : goal.overflow_step-x
-overflow_step-x c = omega arith
-
-pub loop-x-smaller : goal.loop-x-smaller
-loop-x-smaller c = omega arith
-
-pub shape_of-plane : goal.shape_of-plane
-shape_of-plane c = c.loop-x.invariant.1

@@ -65,12 +65,6 @@ returns c =
 known : (c : place.After-plane_config claims Pre Post) → Room c.plane_config-c.result (length c.args.plane.now)
 known c = room _ _ _ _ _ c.plane_config-c.ensures (picture_good c.before.before.before) (long c.before)
 
-pub plane_len-requires : goal.plane_len-requires
-plane_len-requires c = picture_good c.before
-
-pub plane_config-c-requires : goal.plane_config-c-requires
-plane_config-c-requires c = picture_good c.before.before.before
-
 pub overflow_mul-c : goal.overflow_mul-c
 overflow_mul-c c = let z = known c.before.before in omega arith
 

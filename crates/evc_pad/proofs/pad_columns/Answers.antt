@@ -8,13 +8,11 @@ use lib.ListN.{get_or}
 use Rattle.evc_int.specs.Lists.{with_row, with_block}
 use Rattle.evc_int.proofs.Lists.{row_fits, block_step, block_done}
 use Rattle.evc_pad.proofs.Rows.{with_block-beside}
+use Rattle.evc_pad.proofs.pad_columns.Invariants.{column}
 use Rattle.evc_pad.proofs.pad_columns.Goals as goal
 use Rattle.evc_pad.proofs.pad_columns.Lts as place
 use Rattle.evc_pad.proofs.pad_columns.Reads.{Pre, Post}
 use Rattle.evc_pad.proofs.pad_columns.Tie.{the-claims as claims, handed_clauses as clauses}
-
-abbrev column : List ℕ → ℕ → ℕ → ℕ → ℕ → ℕ → ℕ
-column l base stride from y x = get_or l (base + y * stride + from) 0
 
 pub loop-y-init : goal.loop-y-init
 unfolding with_block
@@ -29,7 +27,7 @@ turn l l₀ k base stride x n from y p q lf lx o =
     block_step l l₀ k (base + x) stride n y (column l₀ base stride from) p
     (q ∙ ap (λ (i : ℕ). with_row l i n (λ _. get_or l (base + y * stride + from) 0)) e ∙ ap (λ (v : ℕ). with_row l (base + x + y * stride) n (λ _. v)) kept)
 
-room : (c : place.In-loop claims Pre Post clauses goal.the-invariant-loop-y goal.the-decreases-loop-y) → c.loop-y.y * c.args.stride + c.args.stride ≤ c.args.h * c.args.stride
+room : (c : place.In-loop claims Pre Post goal.the-invariant-loop-y goal.the-decreases-loop-y clauses) → c.loop-y.y * c.args.stride + c.args.stride ≤ c.args.h * c.args.stride
 room c = row_fits _ c.loop-y-test.true
 
 pub loop-y-preserved : goal.loop-y-preserved

@@ -34,14 +34,14 @@ module _ (t : PlaneType) (W H : ℕ) (c : PlaneConfig) (e : c ≡ config_of t W 
 known : (c : place.After-plane_config claims Pre Post clauses) → Room c.plane_config-c.result (length c.args.plane.now)
 known c = room _ _ _ _ _ c.plane_config-c.ensures c.requires.pic_h_value c.requires.pic_h_in_bounds
 
-length₁ : (c : place.After-pad_columns-arg2 claims Pre Post clauses) → length c.pad_columns.new.0 ≡ length c.args.plane.now
-length₁ c = c.pad_columns.auto.0
+length₁ : (c : place.After-pad_columns-arg2 claims Pre Post clauses) → length c.pad_columns.new.plane ≡ length c.args.plane.now
+length₁ c = c.pad_columns.auto.plane
 
-length₂ : (c : place.After-pad_rows-arg claims Pre Post clauses) → length c.pad_columns-2.new.0 ≡ length c.args.plane.now
-length₂ c = c.pad_columns-2.auto.0 ∙ length₁ c.before.before.before.before
+length₂ : (c : place.After-pad_rows-arg claims Pre Post clauses) → length c.pad_columns-2.new.plane ≡ length c.args.plane.now
+length₂ c = c.pad_columns-2.auto.plane ∙ length₁ c.before.before.before.before
 
-length₃ : (c : place.After-pad_rows-arg2 claims Pre Post clauses) → length c.pad_rows.new.0 ≡ length c.args.plane.now
-length₃ c = c.pad_rows.auto.0 ∙ length₂ c.before.before.before.before
+length₃ : (c : place.After-pad_rows-arg2 claims Pre Post clauses) → length c.pad_rows.new.plane ≡ length c.args.plane.now
+length₃ c = c.pad_rows.auto.plane ∙ length₂ c.before.before.before.before
 
 pub pad_columns-requires : goal.pad_columns-requires
 pad_columns-requires c = let z = known c.before.before.before in record { stride_in_bounds = (omega arith, omega arith, omega arith); fact = inr (omega arith) }

@@ -8,13 +8,11 @@ use native.Mathlib.Nat.{le_refl}
 use lib.ListN.{get_or}
 use Rattle.evc_int.specs.Lists.{with_row, with_block}
 use Rattle.evc_int.proofs.Lists.{row_fits, with_row-ext, with_block-past, with_block-before, block_step, block_done}
+use Rattle.evc_pad.proofs.pad_rows.Invariants.{row}
 use Rattle.evc_pad.proofs.pad_rows.Goals as goal
 use Rattle.evc_pad.proofs.pad_rows.Lts as place
 use Rattle.evc_pad.proofs.pad_rows.Reads.{Pre, Post}
 use Rattle.evc_pad.proofs.pad_rows.Tie.{the-claims as claims, handed_clauses as clauses}
-
-abbrev row : List ℕ → ℕ → ℕ → ℕ → ℕ
-row l from y x = get_or l (from + x) 0
 
 pub loop-y-init : goal.loop-y-init
 unfolding with_block
@@ -34,7 +32,7 @@ turn l l₀ k stride from to h y p q lt o =
         with_block-past 0 l₀ to stride stride y (row l₀ from) (from + x) (le_refl stride) (omega (arith, row_fits stride lt)))
         o
 
-room : (c : place.In-loop claims Pre Post clauses goal.the-invariant-loop-y goal.the-decreases-loop-y) → c.loop-y.y * c.args.stride + c.args.stride ≤ c.args.h * c.args.stride
+room : (c : place.In-loop claims Pre Post goal.the-invariant-loop-y goal.the-decreases-loop-y clauses) → c.loop-y.y * c.args.stride + c.args.stride ≤ c.args.h * c.args.stride
 room c = row_fits _ c.loop-y-test.true
 
 pub copy_row-requires : goal.copy_row-requires

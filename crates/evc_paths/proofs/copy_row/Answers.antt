@@ -29,7 +29,7 @@ loop-x-preserved c =
     let i = c.loop-x.invariant in (
       (let t = c.loop-x-test.true in omega arith),
       (let m = i.1 in omega arith),
-      c.copy8.auto.1.1.0 ∙ i.2,
+      c.copy8.auto.d ∙ i.2,
       copied_more _ _ _ c.args.s.now _ _ i.3 c.copy8.ensures,
     )
 
@@ -43,13 +43,13 @@ pub copy4-requires : goal.copy4-requires
 copy4-requires c = let e = c.if-n-eq4.true in omega arith
 
 pub shape_of-d-then-n-eq4 : goal.shape_of-d-then-n-eq4
-shape_of-d-then-n-eq4 c = c.copy4.auto.1.1.0
+shape_of-d-then-n-eq4 c = c.copy4.auto.d
 
 pub copy2-requires : goal.copy2-requires
 copy2-requires c = let e = c.if-n-eq2.true in omega arith
 
 pub shape_of-d-then-n-eq2 : goal.shape_of-d-then-n-eq2
-shape_of-d-then-n-eq2 c = c.copy2.auto.1.1.0
+shape_of-d-then-n-eq2 c = c.copy2.auto.d
 
 pub overflow_add-x : goal.overflow_add-x
 overflow_add-x c = record { fits = let i = c.loop-x.invariant in omega (arith, ends c.before.before.before.before.before.before) }

@@ -22,14 +22,14 @@ pub loop-y-init : goal.loop-y-init
 unfolding with_block
 loop-y-init c = (omega arith, refl, refl)
 
+lengths : (s : place.Start claims Pre Post goal.the-invariant-loop-y goal.the-decreases-loop-y) → length s.args.pred.now < 18446744073709551616
+lengths s = omega arith
+
 pub overflow_mul-y : goal.overflow_mul-y
 overflow_mul-y c =
     let r = (rows c.before.before.before).1 in
-    let l = lengths c in
+    let l = lengths c.before.before.before.before.before.before.before in
     omega arith
-  where
-    lengths : (s : tie.Start invariant_loop decreases_loop) → length s.args.pred.now < 18446744073709551616
-    lengths s = omega arith
 
 pub copy_row-requires : goal.copy_row-requires
 copy_row-requires c =
@@ -44,7 +44,7 @@ pub loop-y-preserved : goal.loop-y-preserved
 loop-y-preserved c =
     let l = c.loop-y in (
       (let t = c.loop-y-test.true in omega arith),
-      c.copy_row.auto.1.1.0 ∙ l.invariant.1,
+      c.copy_row.auto.d ∙ l.invariant.1,
       block_step _ _ _ _ _ _ _ _ l.invariant.2 (row_copied _ _ _ _ _ _ _ _ c.row_of.ensures c.copy_row.ensures),
     )
 

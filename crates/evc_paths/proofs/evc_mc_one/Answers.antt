@@ -17,7 +17,7 @@ use Rattle.evc_paths.proofs.evc_mc_one.Lts as place
 use Rattle.evc_paths.proofs.evc_mc_one.Reads.{Pre, Post}
 use Rattle.evc_paths.proofs.evc_mc_one.Tie.{the-claims as claims, handed_clauses as clauses}
 
-o_is : (p : place.After-taps_of claims Pre Post clauses goal.the-invariant-loop-cg goal.the-decreases-loop-cg) → let a = p.args in p.offsets_of-o.result ≡ offsets_of a.t (step_of a.across a.stride)
+o_is : (p : place.After-taps_of claims Pre Post goal.the-invariant-loop-cg goal.the-decreases-loop-cg clauses) → let a = p.args in p.offsets_of-o.result ≡ offsets_of a.t (step_of a.across a.stride)
 o_is p = p.offsets_of-o.ensures ∙ ap (offsets_of p.args.t) p.select.ensures
 
 select_small : (b : Bool) (r stride : ℕ) → r ≡ cond b 1 stride → stride ≤ 65535 → r ≤ 65535
@@ -25,7 +25,7 @@ select_small true r stride e l = omega arith
 select_small false r stride e l = omega arith
 
 -- the first row lies within
-first_row_lem : (s : place.Start claims Pre Post clauses goal.the-invariant-loop-cg goal.the-decreases-loop-cg) → s.args.at + s.args.w < 18446744073709551616
+first_row_lem : (s : place.Start claims Pre Post goal.the-invariant-loop-cg goal.the-decreases-loop-cg clauses) → s.args.at + s.args.w < 18446744073709551616
 first_row_lem s = omega (arith, row_fits s.args.stride s.requires.w_value.2)
 
 pub single_narrow-requires : goal.single_narrow-requires
@@ -36,7 +36,7 @@ single_narrow-requires c =
     let r = single_asks a.t a.s.now a.at a.stride a.w a.h a.across c.requires.within a.phase 0 a.w a.at a.pred.now _ _ (o_is c.before.before.before) c.taps_of-taps.ensures q.3 (omega arith) z c.requires.t_in_bounds.0 c.requires.t_in_bounds.1 in
     (r.0, c.requires.t_in_bounds.1, q.0, c.if-w-lt8.true)
 
-gives : (p : place.After-taps_of claims Pre Post clauses goal.the-invariant-loop-cg goal.the-decreases-loop-cg) → let a = p.args in with_block a.pred.now 0 a.w a.w a.h (λ (y x : ℕ). single_at a.s.now (a.at + y * a.stride + x) p.offsets_of-o.result p.taps_of-taps.result) ≡ with_block a.pred.now 0 a.w a.w a.h (λ (y x : ℕ). interpolated a.t a.phase a.s.now (a.at + y * a.stride + x) (step_of a.across a.stride))
+gives : (p : place.After-taps_of claims Pre Post goal.the-invariant-loop-cg goal.the-decreases-loop-cg clauses) → let a = p.args in with_block a.pred.now 0 a.w a.w a.h (λ (y x : ℕ). single_at a.s.now (a.at + y * a.stride + x) p.offsets_of-o.result p.taps_of-taps.result) ≡ with_block a.pred.now 0 a.w a.w a.h (λ (y x : ℕ). interpolated a.t a.phase a.s.now (a.at + y * a.stride + x) (step_of a.across a.stride))
 gives p =
     let a = p.args in
     single_gives a.t a.s.now a.at a.stride a.w a.h a.across p.requires.within a.phase p.requires.w_value.3 a.pred.now _ _ (o_is p) p.taps_of-taps.ensures
@@ -45,13 +45,13 @@ pub returns-then-w-lt8 : goal.returns-then-w-lt8
 returns-then-w-lt8 c = c.single_narrow.ensures ∙ gives c.before.before.before.before.before.before
 
 -- eight columns from column cg on
-group : (p : place.After-taps_of claims Pre Post clauses goal.the-invariant-loop-cg goal.the-decreases-loop-cg) → let a = p.args in (cg i : ℕ) (d : List ℕ) → cg + 8 ≤ a.w → i ≡ a.at + cg → length d ≡ length a.pred.now
+group : (p : place.After-taps_of claims Pre Post goal.the-invariant-loop-cg goal.the-decreases-loop-cg clauses) → let a = p.args in (cg i : ℕ) (d : List ℕ) → cg + 8 ≤ a.w → i ≡ a.at + cg → length d ≡ length a.pred.now
     → Rows 1023 8 a.stride a.h a.s.now i p.offsets_of-o.result p.taps_of-taps.result × (cg + a.h * a.w + 8 ≤ length d + a.w)
 group p cg i d l e m =
     let a = p.args in
     single_asks a.t a.s.now a.at a.stride a.w a.h a.across p.requires.within a.phase cg 8 i d _ _ (o_is p) p.taps_of-taps.ensures p.requires.w_value.3 l e p.requires.t_in_bounds.0 (omega (arith, m, p.requires.t_in_bounds.1))
 
-eight : (c : place.Then2 claims Pre Post clauses goal.the-invariant-loop-cg goal.the-decreases-loop-cg) → c.args.w ≡ 8
+eight : (c : place.Then2 claims Pre Post goal.the-invariant-loop-cg goal.the-decreases-loop-cg clauses) → c.args.w ≡ 8
 eight c = c.if-w-eq8.true
 
 pub single8_rows-requires : goal.single8_rows-requires
@@ -75,7 +75,7 @@ loop-cg-preserved c =
     let t = c.loop-cg-test.true in (
       t,
       (let e = l.invariant.1 in omega arith),
-      c.single8_rows-in-loop-cg.auto.1.1.1.1.1.1.0 ∙ l.invariant.2,
+      c.single8_rows-in-loop-cg.auto.d ∙ l.invariant.2,
       group_step (λ (i : ℕ). single_at a.s.now i c.offsets_of-o.result c.taps_of-taps.result) _ _ _ _ _ _ _ _ t l.invariant.3 c.single8_rows-in-loop-cg.ensures,
     )
 
@@ -92,10 +92,10 @@ pub taps_of-taps-requires : goal.taps_of-taps-requires
 taps_of-taps-requires c = c.requires.w_value.3
 
 pub shape_of-pred-then-w-lt8 : goal.shape_of-pred-then-w-lt8
-shape_of-pred-then-w-lt8 c = c.single_narrow.auto.1.1.1.1.1.1.1.0
+shape_of-pred-then-w-lt8 c = c.single_narrow.auto.d.0
 
 pub shape_of-pred-then-w-eq8 : goal.shape_of-pred-then-w-eq8
-shape_of-pred-then-w-eq8 c = c.single8_rows.auto.1.1.1.1.1.1.0
+shape_of-pred-then-w-eq8 c = c.single8_rows.auto.d
 
 pub overflow_add-cg : goal.overflow_add-cg
 overflow_add-cg c = record { fits = let i = c.loop-cg.invariant.0 in let m = c.requires.w_value.1 in omega arith }

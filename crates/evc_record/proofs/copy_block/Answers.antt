@@ -45,7 +45,7 @@ loop-y-preserved c =
     let l = c.loop-y in
     let a = c.args in (
       (let t = c.loop-y-test.true in omega arith),
-      c.copy_row.auto.1.1.0 ∙ l.invariant.1,
+      c.copy_row.auto.d ∙ l.invariant.1,
       block_step _ _ _ _ _ _ _ _ l.invariant.2 (row_copied a.s.now _ l.d _ (a.at + l.y * a.w) a.w (a.to + l.y * a.stride) c.row_of.ensures c.copy_row.ensures),
     )
 

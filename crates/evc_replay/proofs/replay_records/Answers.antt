@@ -18,10 +18,10 @@ use Rattle.evc_replay.proofs.replay_records.Lts as place
 use Rattle.evc_replay.proofs.replay_records.Reads.{Pre, Post}
 use Rattle.evc_replay.proofs.replay_records.Tie.{the-claims as claims, handed_clauses as clauses}
 
-abbrev from : (place.Start claims Pre Post clauses goal.the-invariant-loop-at goal.the-decreases-loop-at) → Source
+abbrev from : (place.Start claims Pre Post goal.the-invariant-loop-at goal.the-decreases-loop-at clauses) → Source
 from s = let a = s.args in source a.h (planes a.y0.now a.u0.now a.v0.now) (planes a.y1.now a.u1.now a.v1.now) a.has_col a.col_mv.now
 
-abbrev target : (place.At-loop claims Pre Post clauses goal.the-invariant-loop-at goal.the-decreases-loop-at) → Planes
+abbrev target : (place.At-loop claims Pre Post goal.the-invariant-loop-at goal.the-decreases-loop-at clauses) → Planes
 target k = planes k.loop-at.y k.loop-at.u k.loop-at.v
 
 pub loop-at-init : goal.loop-at-init
@@ -44,16 +44,16 @@ replay_record-record-requires c =
     let i = c.loop-at.invariant in
     let a = c.args in record { v_value = still_long _ _ (planes a.y.now a.u.now a.v.now) _ i.2 i.3 i.4 c.requires.0; pred0_len = (i.5, i.6) }
 
-number : (c : place.After-replay_record claims Pre Post clauses goal.the-invariant-loop-at goal.the-decreases-loop-at) → c.replay_record-record.result.code ≡ record_code (from c.before.before.before.before.before.before.before.before.before.before.before.before.before.before.before.before.before.before.before.before) c.record_at.result.now
+number : (c : place.After-replay_record claims Pre Post goal.the-invariant-loop-at goal.the-decreases-loop-at clauses) → c.replay_record-record.result.code ≡ record_code (from c.before.before.before.before.before.before.before.before.before.before.before.before.before.before.before.before.before.before.before.before) c.record_at.result.now
 number c = ap (λ (p : EvcPredicted). p.code) c.replay_record-record.ensures.result_value
 
 -- it was not refused, so it is complete
-room : (c : place.Else1 claims Pre Post clauses goal.the-invariant-loop-at goal.the-decreases-loop-at) → (c.loop-at.at + 22 ≤ length c.args.trace.now) × (length c.args.trace.now < 18446744073709551616)
+room : (c : place.Else1 claims Pre Post goal.the-invariant-loop-at goal.the-decreases-loop-at clauses) → (c.loop-at.at + 22 ≤ length c.args.trace.now) × (length c.args.trace.now < 18446744073709551616)
 room c =
     let a = c.args in
     (complete (from c.before.before.before.before.before.before.before.before.before.before.before.before.before.before.before.before.before.before.before.before.before.before.before.before.before.before.before.before.before.before) a.trace.now c.loop-at.at c.loop-at.index (target c.before.before.before.before.before.before.before.before.before.before.before.before.before.before.before.before.before.before) _ c.record_at.ensures (sym (number c.before.before.before.before.before.before.before.before.before.before) ∙ c.if-record-ne0.false), small c)
   where
-    small : (s : place.Start claims Pre Post clauses goal.the-invariant-loop-at goal.the-decreases-loop-at) → length s.args.trace.now < 18446744073709551616
+    small : (s : place.Start claims Pre Post goal.the-invariant-loop-at goal.the-decreases-loop-at clauses) → length s.args.trace.now < 18446744073709551616
     small s = omega arith
 
 pub returns-then-record-ne0 : goal.returns-then-record-ne0
