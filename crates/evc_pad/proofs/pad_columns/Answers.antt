@@ -33,7 +33,7 @@ room c = row_fits _ c.loop-y-test.true
 pub loop-y-preserved : goal.loop-y-preserved
 loop-y-preserved c =
     let i = c.loop-y.invariant in
-    let f = c.fill in (omega arith, f.auto.0 ∙ i.1, turn _ _ _ _ _ _ _ _ _ i.2 f.ensures c.requires.stride_in_bounds.2 c.requires.stride_in_bounds.1 c.requires.fact)
+    let f = c.fill in (omega arith, f.auto.plane ∙ i.1, turn _ _ _ _ _ _ _ _ _ i.2 f.ensures c.requires.stride_in_bounds.2 c.requires.stride_in_bounds.1 c.requires.fact)
 
 pub returns : goal.returns
 returns c = let i = c.loop-y.invariant in block_done _ _ _ _ _ _ _ _ i.2 i.0 c.loop-y-test.false

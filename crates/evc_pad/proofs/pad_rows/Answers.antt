@@ -44,7 +44,7 @@ loop-y-preserved c =
     let i = c.loop-y.invariant in
     let f = c.copy_row in (
       omega arith,
-      f.auto.0 ∙ i.1,
+      f.auto.plane ∙ i.1,
       turn _ _ _ _ _ _ _ _ i.2 f.ensures c.loop-y-test.true c.requires.fact,
     )
 

@@ -10,9 +10,6 @@ use Rattle.evc_paths.proofs.columns.Lts as place
 use Rattle.evc_paths.proofs.columns.Reads.{Pre, Post}
 use Rattle.evc_paths.proofs.columns.Tie.{the-claims as claims, handed_clauses as clauses}
 
-count : (s : place.Start claims Pre Post clauses) → s.args.h * s.args.n ≤ 512
-count s = let p = s.requires.n_value in mul-le-mul p.3 p.1
-
 rows : (s : place.Start claims Pre Post clauses) → Lanes s.args.n s.args.h
 rows s = let p = s.requires.n_value in lanes s.args.n s.args.h p.0 p.1 p.2
 
@@ -23,9 +20,6 @@ first_block-requires c =
     rw (c.offsets_of.ensures, c.taps_of.ensures)
     (first_asks a.t a.s.now a.m.now a.at a.stride a.n a.h a.dx p.4 c.requires.w_value.1 p.1 p.6 _ _ c.rows_more.ensures c.unit-one.ensures
     c.requires.t_in_bounds.0 p.0)
-
-some_lanes : (c : place.After-select claims Pre Post clauses) → 0 < c.select-lanes.result
-some_lanes c = ⊎_elim (λ e. omega (arith, e, c.select-lanes.ensures)) (λ e. omega (arith, e, c.select-lanes.ensures)) (rows c.before.before.before.before.before.before.before.before.before.before.before.before).four_or_eight
 
 pub second_block-requires : goal.second_block-requires
 second_block-requires c =
@@ -44,18 +38,3 @@ returns c =
     c.second_block.ensures
     ∙ second_done a.t a.s.now a.m.now a.at a.stride a.n a.h a.dx p.4 c.requires.w_value.1 p.1 p.6 _ _ _ _ c.rows_more.ensures c.offsets_of.ensures c.taps_of.ensures
     c.first_block.ensures a.w _ _ (rows c.before.before.before.before.before.before.before.before.before.before.before.before.before.before.before.before.before.before.before.before) c.requires.w_value.0 c.select-lanes.ensures c.select-width.ensures a.pred.now a.to _ _ _ c.offsets_of-2.ensures c.taps_of-2.ensures (let l = p.5 in omega arith)
-
-pub overflow_mul-h : goal.overflow_mul-h
-overflow_mul-h c = record { fits = omega (arith, count c.before.before.before.before.before.before.before.before.before.before.before.before) }
-
-pub overflow_mul-h-2 : goal.overflow_mul-h-2
-overflow_mul-h-2 c = record { fits = omega (arith, count c.before.before.before.before.before.before.before.before.before.before.before.before.before.before) }
-
-pub nonzero_div-h : goal.nonzero_div-h
-nonzero_div-h c = some_lanes c.before.before
-
-pub offsets_of-requires-2 : goal.offsets_of-requires-2
-offsets_of-requires-2 c = let p = c.requires.n_value.1 in omega arith
-
-pub taps_of-requires-2 : goal.taps_of-requires-2
-taps_of-requires-2 c = let l = c.requires.n_value.5 in omega arith

@@ -20,14 +20,6 @@ use Rattle.evc_paths.proofs.evc_mc_one.Tie.{the-claims as claims, handed_clauses
 o_is : (p : place.After-taps_of claims Pre Post goal.the-invariant-loop-cg goal.the-decreases-loop-cg clauses) → let a = p.args in p.offsets_of-o.result ≡ offsets_of a.t (step_of a.across a.stride)
 o_is p = p.offsets_of-o.ensures ∙ ap (offsets_of p.args.t) p.select.ensures
 
-select_small : (b : Bool) (r stride : ℕ) → r ≡ cond b 1 stride → stride ≤ 65535 → r ≤ 65535
-select_small true r stride e l = omega arith
-select_small false r stride e l = omega arith
-
--- the first row lies within
-first_row_lem : (s : place.Start claims Pre Post goal.the-invariant-loop-cg goal.the-decreases-loop-cg clauses) → s.args.at + s.args.w < 18446744073709551616
-first_row_lem s = omega (arith, row_fits s.args.stride s.requires.w_value.2)
-
 pub single_narrow-requires : goal.single_narrow-requires
 single_narrow-requires c =
     let a = c.args in
@@ -84,30 +76,3 @@ returns c =
     let i = c.loop-cg.invariant in
     let l = c.if-w-lt8.false in
     columns_done _ _ _ _ _ _ i.3 i.0 (full _ _ c.requires.w_value.0 (omega arith) i.1 (omega arith)) ∙ gives c.before.before.before.before.before
-
-pub offsets_of-o-requires : goal.offsets_of-o-requires
-offsets_of-o-requires c = select_small c.args.across _ c.args.stride c.select.ensures c.requires.w_value.4
-
-pub taps_of-taps-requires : goal.taps_of-taps-requires
-taps_of-taps-requires c = c.requires.w_value.3
-
-pub shape_of-pred-then-w-lt8 : goal.shape_of-pred-then-w-lt8
-shape_of-pred-then-w-lt8 c = c.single_narrow.auto.d.0
-
-pub shape_of-pred-then-w-eq8 : goal.shape_of-pred-then-w-eq8
-shape_of-pred-then-w-eq8 c = c.single8_rows.auto.d
-
-pub overflow_add-cg : goal.overflow_add-cg
-overflow_add-cg c = record { fits = let i = c.loop-cg.invariant.0 in let m = c.requires.w_value.1 in omega arith }
-
-pub overflow_add-at : goal.overflow_add-at
-overflow_add-at c = record { fits = let t = c.loop-cg-test.true in omega (arith, first_row_lem c.before.before.before.before.before.before.before.before.before.before) }
-
-pub overflow_add-cg-in-loop-cg : goal.overflow_add-cg-in-loop-cg
-overflow_add-cg-in-loop-cg c = record { fits = let t = c.loop-cg-test.true in let m = c.requires.w_value.1 in omega arith }
-
-pub loop-cg-smaller : goal.loop-cg-smaller
-loop-cg-smaller c = let t = c.loop-cg-test.true in omega arith
-
-pub shape_of-pred : goal.shape_of-pred
-shape_of-pred c = c.loop-cg.invariant.2

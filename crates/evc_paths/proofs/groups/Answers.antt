@@ -11,12 +11,6 @@ use Rattle.evc_paths.proofs.groups.Lts as place
 use Rattle.evc_paths.proofs.groups.Reads.{Pre, Post}
 use Rattle.evc_paths.proofs.groups.Tie.{the-claims as claims, handed_clauses as clauses}
 
-pub columns-requires : goal.columns-requires
-columns-requires c = let p = c.requires.w_value in record { t_in_bounds = (c.requires.t_in_bounds.0, omega (arith, c.requires.t_in_bounds.1)); n_value = (p.0, omega arith, p.2, p.3, p.4, p.5, p.6); w_value = (λ l. refl, c.requires.within) }
-
-pub returns-then-w-lt8 : goal.returns-then-w-lt8
-returns-then-w-lt8 c = c.columns.ensures
-
 pub loop-cg-init : goal.loop-cg-init
 loop-cg-init c = let a = c.args in (omega arith, refl, refl, refl, sym (columns_none a.pred.now 0 a.w a.h _))
 
@@ -38,35 +32,3 @@ loop-cg-preserved c =
       c.columns-in-loop-cg.auto.pred ∙ l.invariant.3,
       group_step (λ (i : ℕ). interpolated_twice a.t a.dx a.dy a.s.now i a.stride) _ _ _ _ _ _ _ _ t l.invariant.4 c.columns-in-loop-cg.ensures,
     )
-
-pub returns : goal.returns
-returns c =
-    let i = c.loop-cg.invariant in
-    columns_done _ _ _ _ _ _ i.4 i.0 (full _ _ c.requires.w_value.0 (omega arith) i.1 (omega arith))
-
-lengths : (s : place.Start claims Pre Post goal.the-invariant-loop-cg goal.the-decreases-loop-cg clauses) → length s.args.s.now < 18446744073709551616
-lengths s = omega arith
-
-pub shape_of-m-then-w-lt8 : goal.shape_of-m-then-w-lt8
-shape_of-m-then-w-lt8 c = c.columns.auto.m
-
-pub shape_of-pred-then-w-lt8 : goal.shape_of-pred-then-w-lt8
-shape_of-pred-then-w-lt8 c = c.columns.auto.pred
-
-pub overflow_add-cg : goal.overflow_add-cg
-overflow_add-cg c = let w = c.requires.w_value.1 in let l = c.loop-cg.invariant.0 in omega arith
-
-pub overflow_add-at : goal.overflow_add-at
-overflow_add-at c = let l = c.loop-cg-test.true in omega (arith, c.requires.t_in_bounds.0, first_row_lem c.args.t c.args.h c.args.stride, lengths c.before.before.before.before.before.before.before)
-
-pub overflow_add-cg-in-loop-cg : goal.overflow_add-cg-in-loop-cg
-overflow_add-cg-in-loop-cg c = let t = c.loop-cg-test.true in let w = c.requires.w_value.1 in omega arith
-
-pub loop-cg-smaller : goal.loop-cg-smaller
-loop-cg-smaller c = let t = c.loop-cg-test.true in omega arith
-
-pub shape_of-m : goal.shape_of-m
-shape_of-m c = c.loop-cg.invariant.2
-
-pub shape_of-pred : goal.shape_of-pred
-shape_of-pred c = c.loop-cg.invariant.3
