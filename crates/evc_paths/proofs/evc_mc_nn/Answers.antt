@@ -12,7 +12,7 @@ groups-requires c =
 pub groups-requires-in-Y : goal.groups-requires-in-Y
 groups-requires-in-Y c =
     let p = c.requires.w_value in
-    let f = stage_fits c.args.t Y c.args.h c.in-Y.is.1 p.3 in record { t_in_bounds = c.requires.t_in_bounds; w_value = (p.0, p.1, p.2, f.0, p.4, p.5, f.1); within = c.requires.within }
+    let f = stage_fits c.args.t Y c.args.h c.in-Y.is p.3 in record { t_in_bounds = c.requires.t_in_bounds; w_value = (p.0, p.1, p.2, f.0, p.4, p.5, f.1); within = c.requires.within }
 
 pub groups-requires-in-UV : goal.groups-requires-in-UV
 groups-requires-in-UV c =
