@@ -2,4 +2,5 @@ pub mod Around
 pub mod Answers
 pub mod Seen
 pub mod Flags
+pub mod RegionFlags
 pub mod Laws

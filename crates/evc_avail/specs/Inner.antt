@@ -1,7 +1,7 @@
 -- The vocabulary of inner contracts: the part of a picture that the code passes.
 use Rattle.std.specs.Prelude.{◌≡◌, ℕ, Bool, true, nat_eq}
 use Rattle.evc_def.specs.Tables.{is_coded, is_intra, slice_num}
-use Rattle.evc_avail.specs.Flags.{of_picture}
+use Rattle.evc_avail.specs.Regions.{of_picture}
 use Rattle.evc_avail.specs.Slices.{of_slice}
 use Rattle.evc_avail.specs.declared.Region.{Region}
 

@@ -1,11 +1,14 @@
 -- `evc_avail::avail_code` meets its contract: 1, 2, then 4. Assumes nothing.
-use Rattle.std.proofs.Common.{◌≡◌, sym, ◌∙◌}
+use mathlib.Core.Path.{◌≡◌, sym, ◌∙◌}
 use Rattle.evc_def.specs.Codes.{first_of, block_checks}
 use Rattle.evc_def.proofs.Codes.{refused, passed, none, stops, goes_on}
 use Rattle.evc_def.proofs.Blocks.{allowed_block}
 use Rattle.evc_avail.proofs.avail_code.Goals as goal
+use Rattle.evc_avail.proofs.avail_code.Lts as place
+use Rattle.evc_avail.proofs.avail_code.Reads.{Pre, Post}
+use Rattle.evc_avail.proofs.avail_code.Tie.{the-claims as claims}
 
-accepted : (c : goal.Else-code-ne0) → first_of (block_checks c.args.b) ≡ 0
+accepted : (c : place.Else1 claims Pre Post) → first_of (block_checks c.args.b) ≡ 0
 accepted c = sym c.block_code-code.ensures ∙ c.if-code-ne0.false
 
 pub returns-then-code-ne0 : goal.returns-then-code-ne0

@@ -1,5 +1,7 @@
 -- `evc_avail::block_rows` meets its contract. Assumes nothing.
-use Rattle.std.proofs.Common.{◌*◌, ◌≤◌, ap₂, arith}
+use mathlib.Core.Path.{ap₂}
+use Prim.Native.Nat.{◌*◌, ◌≤◌}
+use native.Mathlib.Omega.{arith}
 use Rattle.evc_map.specs.Maps.{most_units}
 use Rattle.evc_map.proofs.Units.{units_small}
 use Rattle.evc_avail.proofs.block_rows.Goals as goal

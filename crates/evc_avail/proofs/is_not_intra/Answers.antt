@@ -1,9 +1,7 @@
 -- `evc_avail::is_not_intra` meets its contract. Assumes nothing.
-use Rattle.std.proofs.Common.{ℕ, Bool, not, ◌&&◌, eqb, sym, ◌∙◌, ap₂}
-use Rattle.evc_avail.proofs.Seen.{not_intra_seen}
+use mathlib.Core.Bool.{not}
+use mathlib.Core.Path.{ap, sym}
 use Rattle.evc_avail.proofs.is_not_intra.Goals as goal
 
 pub returns : goal.returns
-returns c =
-    rw (sym c.mcu_at.ensures)
-    (ap₂ (λ (k : ℕ) (t : Bool). eqb k 0 && not t) c.GET_SN.ensures c.GET_IF.ensures ∙ not_intra_seen _ _ _ c.seen-mcu.ensures)
+returns c = rw (sym c.mcu_at.ensures) (ap not c.GET_IF.ensures)

@@ -1,0 +1,67 @@
+-- `evc_avail::avail_right_in` meets its contract. Assumes nothing.
+use Rattle.std.proofs.Common.{◌≡◌, ◌+◌, ◌*◌, true, sym, ◌∙◌, subst, arith}
+use borrow.Author.Tests.{not-true, not-false}
+use Rattle.evc_map.specs.Maps.{scup, scuw, scuh, w_scu}
+use Rattle.evc_avail.specs.Around.{right_of, first_row, below}
+use Rattle.evc_avail.specs.Regions.{is_inter_in}
+use Rattle.evc_avail.specs.Inner.{units_in}
+use Rattle.evc_map.proofs.Units.{scup_below}
+use Rattle.evc_avail.proofs.Around.{Unit, right_unit, lower_right_unit, inter_in_is, found_in}
+use Rattle.evc_avail.proofs.RegionFlags.{no_right, right_flags}
+use Rattle.evc_avail.proofs.avail_right_in.Goals as goal
+use Rattle.evc_avail.proofs.avail_right_in.Lts as place
+use Rattle.evc_avail.proofs.avail_right_in.Reads.{Pre, Post}
+use Rattle.evc_avail.proofs.avail_right_in.Tie.{the-claims as claims, handed_clauses as clauses}
+
+beside : (c : place.After-has_right claims Pre Post clauses) → let b = c.args.b in Unit b (right_of b) (first_row b) (scup b + scuw b) c.has_right.result
+beside c =
+    let p = c.requires.allowed in
+    let b = c.args.b in
+    subst (Unit b (right_of b) (first_row b) (scup b + scuw b)) (sym c.has_right.ensures) (right_unit b p.0 p.1)
+
+pub overflow_add-right : goal.overflow_add-right
+overflow_add-right c =
+    let p = c.requires.allowed in
+    let l = scup_below c.args.b p.0 p.1 in
+    record { fits = omega (arith, c.scu.ensures) }
+
+pub is_inter_in-ri-requires : goal.is_inter_in-ri-requires
+is_inter_in-ri-requires c = record { back_le_scup = (λ t. let k = (beside c.before).index_low t in (omega arith, omega (arith, c.scu.ensures))); region_bound = c.requires.pic_h_in_bounds.1 }
+
+right_is : (c : place.After-is_inter_in claims Pre Post clauses) → c.is_inter_in-ri.result ≡ is_inter_in (units_in c.args.region) c.args.b c.args.map_scu.now (right_of c.args.b) (first_row c.args.b)
+right_is c =
+    inter_in_is (units_in c.args.region) c.args.b c.args.map_scu.now _ (beside c.before) _ _ (omega (arith, c.scu.ensures)) c.is_inter_in-ri.ensures
+
+pub returns-then-not-ri : goal.returns-then-not-ri
+returns-then-not-ri c =
+    (no_right (units_in c.args.region) c.args.b c.args.map_scu.now (sym (right_is c.before.before) ∙ c.if-not-ri.true), omega arith)
+
+-- the picture has the unit that was found_in
+there : (c : place.Else1 claims Pre Post clauses) → c.has_right.result ≡ true
+there c = found_in _ _ _ _ _ c.is_inter_in-ri.ensures (c.if-not-ri.false)
+
+lower : (c : place.After-has_below claims Pre Post clauses) → let b = c.args.b in Unit b (right_of b) (below b) (scup b + scuw b + scuh b * w_scu b) c.has_below.result
+lower c =
+    let p = c.requires.allowed in
+    rw c.has_below.ensures (lower_right_unit c.args.b p.0 p.1 (sym c.has_right.ensures ∙ there c.before))
+
+pub overflow_add-right-2 : goal.overflow_add-right-2
+overflow_add-right-2 c =
+    let p = c.requires.allowed in
+    let l = scup_below c.args.b p.0 p.1 in
+    record { fits = omega (arith, c.scu.ensures) }
+
+pub is_inter_in-lo_ri-requires : goal.is_inter_in-lo_ri-requires
+is_inter_in-lo_ri-requires c =
+    let n = c.requires.first_value in record { back_le_scup = (λ t. let k = (lower c.before.before.before).index_low t in (omega arith, omega (arith, c.scu.ensures))); region_bound = c.requires.pic_h_in_bounds.1 }
+
+pub returns : goal.returns
+returns c =
+    let n = c.requires.first_value in
+    let b = c.args.b in
+    let map = c.args.map_scu.now in
+    let counts = units_in c.args.region in (
+      right_flags counts b map (sym (right_is c.before.before.before.before.before.before.before) ∙ c.if-not-ri.false) _ _
+          (inter_in_is counts b map _ (lower c.before.before.before.before.before) _ _ (omega (arith, c.scu.ensures)) c.is_inter_in-lo_ri.ensures) c.flag.ensures.0,
+      let f = c.flag.ensures.1 in omega arith,
+    )
