@@ -1,5 +1,5 @@
 -- `evc_interp::evc_mc_l` meets its contract: refused and untouched, or predicted. Assumes nothing.
-use mathlib.Core.Path.{◌≡◌, sym, ap₂, ◌∙◌}
+use mathlib.Core.Path.{ap, ◌≡◌, sym, ap₂, ◌∙◌}
 use mathlib.Core.Bool.{Bool, false, not, ◌&&◌, ◌||◌}
 use Prim.Native.Nat.{◌*◌}
 use native.Mathlib.Nat.{mul_comm}
@@ -22,13 +22,13 @@ sides : (c : place.After-is_block_side2 claims Pre Post clauses) → let a = c.a
 sides c = sym (ap₂ (λ (p q : Bool). not (p && q)) c.is_block_side.ensures c.is_block_side-2.ensures)
 
 allowed : (c : place.Else1 claims Pre Post clauses) → let a = c.args in not (is_side Y a.w && is_side Y a.h) ≡ false
-allowed c = sides c.before ∙ c.if-not-is_block_side.false
+allowed c = sides c.before ∙ ap not c.if-not-is_block_side.false
 
 long : (c : place.Else2 claims Pre Post clauses) → let a = c.args in (ltb (length a.plane.now) (plane_len Y a.pic_w a.pic_h) || ltb (length a.pred.now) (a.w * a.h)) ≡ false
 long c = sym c.is_short.ensures ∙ c.if-is_short.false
 
 pub returns-then-not-is_block_side : goal.returns-then-not-is_block_side
-returns-then-not-is_block_side c = let parts = untouched Y _ _ _ _ _ _ _ _ 2 (omega arith) (code_2 Y _ _ _ _ _ _ _ c.requires (sides c.before.before ∙ c.if-not-is_block_side.true)) in record { value = parts.0; pred_after = parts.1 }
+returns-then-not-is_block_side c = let parts = untouched Y _ _ _ _ _ _ _ _ 2 (omega arith) (code_2 Y _ _ _ _ _ _ _ c.requires (sides c.before.before ∙ ap not c.if-not-is_block_side.true)) in record { value = parts.0; pred_after = parts.1 }
 
 pub is_short-requires : goal.is_short-requires
 is_short-requires c = (c.requires, size Y c.args.w c.args.h (allowed c.before))

@@ -8,7 +8,7 @@ use Rattle.evc_interp.proofs.pel.Goals as goal
 
 pub returns-in-Y : goal.returns-in-Y
 unfolding pel_of
-returns-in-Y c = let z = c.args.z.0 in c.pel.ensures ∙ sym (ap (λ (t : PlaneType). shr_z z (phases t)) c.in-Y.is.1)
+returns-in-Y c = let z = c.args.z.0 in c.pel.ensures ∙ sym (ap (λ (t : PlaneType). shr_z z (phases t)) c.in-Y.is)
 
 pub returns-in-UV : goal.returns-in-UV
 unfolding pel_of

@@ -8,7 +8,7 @@ use Rattle.evc_interp.proofs.phase.Goals as goal
 
 pub returns-in-Y : goal.returns-in-Y
 unfolding phase_of
-returns-in-Y c = let z = c.args.z.0 in c.phase.ensures ∙ sym (ap (λ (t : PlaneType). z modulo phases t) c.in-Y.is.1)
+returns-in-Y c = let z = c.args.z.0 in c.phase.ensures ∙ sym (ap (λ (t : PlaneType). z modulo phases t) c.in-Y.is)
 
 pub returns-in-UV : goal.returns-in-UV
 unfolding phase_of

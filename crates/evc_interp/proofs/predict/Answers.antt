@@ -36,42 +36,32 @@ module _ (s : place.Start claims Pre Post clauses) where
   one_asks true ea ed = asks true false ea ed
   one_asks false ea ed = asks false true ea ed
 
--- the bits of both directions, of one, and of none
-two : (c : place.Then1 claims Pre Post clauses) → let a = c.args in (a.across ≡ true) × (a.down ≡ true)
-two c = let a = c.args in both_true a.across a.down c.in-true.is
-
-one : (c : place.Then2 claims Pre Post clauses) → let a = c.args in a.down ≡ not a.across
-one c = let a = c.args in one_true a.across a.down c.in-false.is c.in-true-2.is
-
-zero : (c : place.Else2 claims Pre Post clauses) → let a = c.args in (a.across ≡ false) × (a.down ≡ false)
-zero c = let a = c.args in none_true a.across a.down c.in-false-2.is
-
 pub evc_mc_nn-requires : goal.evc_mc_nn-requires
 evc_mc_nn-requires c =
     let g = c.requires.0 in
-    let r = asks c.before.before.before.before.before true true (two c.before.before).0 (two c.before.before).1 in record { t_in_bounds = (r.0, c.requires.1); w_value = (g.width, g.narrow, g.height, g.high, g.dx_phase, g.dy_phase); within = r.1 }
+    let r = asks c.before.before.before.before.before true true (both_true c.args.across c.args.down c.in-true.is).0 (both_true c.args.across c.args.down c.in-true.is).1 in record { t_in_bounds = (r.0, c.requires.1); w_value = (g.width, g.narrow, g.height, g.high, g.dx_phase, g.dy_phase); within = r.1 }
+
+chosen : (b : Bool) (r x y n : ℕ) → r ≡ cond b x y → x < n → y < n → r < n
+chosen true r x y n e lx ly = omega arith
+chosen false r x y n e lx ly = omega arith
 
 pub evc_mc_one-requires : goal.evc_mc_one-requires
 evc_mc_one-requires c =
     let g = c.requires.0 in
     let b = c.args.across in
-    let r = one_asks c.before.before.before.before.before.before.before b refl (one c.before.before.before) in
-    ((r.0, c.requires.1), ((g.width, g.narrow, g.some, chosen b _ _ _ _ c.select-phase.ensures g.dx_phase g.dy_phase, g.stride_small), r.1))
-  where
-    chosen : (b : Bool) (r x y n : ℕ) → r ≡ cond b x y → x < n → y < n → r < n
-    chosen true r x y n c lx ly = omega arith
-    chosen false r x y n c lx ly = omega arith
+    let r = one_asks c.before.before.before.before.before.before.before b refl (one_true c.args.across c.args.down c.in-false.is c.in-true-2.is) in
+    record { t_in_bounds = (r.0, c.requires.1); w_value = (g.width, g.narrow, g.some, chosen b _ _ _ _ c.select-phase.ensures g.dx_phase g.dy_phase, g.stride_small); within = r.1 }
 
 pub returns-in-true : goal.returns-in-true
 unfolding sample_by
-returns-in-true c = c.evc_mc_nn.ensures ∙ gives c.before.before.before.before.before.before.before.before true true (two c.before.before.before.before.before).0 (two c.before.before.before.before.before).1
+returns-in-true c = c.evc_mc_nn.ensures ∙ gives c.before.before.before.before.before.before.before.before true true (both_true c.args.across c.args.down c.in-true.is).0 (both_true c.args.across c.args.down c.in-true.is).1
 
 pub returns-in-true-2 : goal.returns-in-true-2
 returns-in-true-2 c =
     let a = c.args in
     let b = a.across in
-    c.evc_mc_one.ensures ∙ one_path a.t b _ _ _ a.plane.now a.pred.now a.w a.h _ _ c.select-phase.ensures ∙ gives c.before.before.before.before.before.before.before.before.before.before b (not b) refl (one c.before.before.before.before.before.before)
+    c.evc_mc_one.ensures ∙ one_path a.t b _ _ _ a.plane.now a.pred.now a.w a.h _ _ c.select-phase.ensures ∙ gives c.before.before.before.before.before.before.before.before.before.before b (not b) refl (one_true c.args.across c.args.down c.in-false.is c.in-true-2.is)
 
 pub returns-in-false-2 : goal.returns-in-false-2
 unfolding sample_by
-returns-in-false-2 c = c.evc_mc_00.ensures ∙ gives c.before.before.before.before.before.before.before.before.before false false (zero c.before.before.before.before.before).0 (zero c.before.before.before.before.before).1
+returns-in-false-2 c = c.evc_mc_00.ensures ∙ gives c.before.before.before.before.before.before.before.before.before false false (none_true c.args.across c.args.down c.in-false-2.is).0 (none_true c.args.across c.args.down c.in-false-2.is).1

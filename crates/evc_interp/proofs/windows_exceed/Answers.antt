@@ -28,15 +28,15 @@ window_exceeds-requires-2 c =
     examined_asks c.args.t _ _ c.args.gmv _ _ _ _ _ c.requires.pic_h_value.0 (search rules) c.window-at.ensures (stride_is _ _ _ _ c.plane_config-c.ensures)
     (omega (arith, z.0.room, z.1.room, z.0.wide, z.1.wide, c.rows_more-more.ensures))
 
+is : (c : place.After-window_exceeds2 claims Pre Post clauses) (s : List ℕ) → let a = c.args in exceeds s c.window-at.result c.plane_config-c.result.stride (a.w + c.rows_more-more.result) (a.h + c.rows_more-more.result) ≡ window_exceeds a.t a.pic_w a.pic_h a.gmv a.w a.h s
+is c s =
+    let a = c.args in
+    examined_is a.t a.pic_w a.pic_h a.gmv a.w a.h s _ _ _ c.window-at.ensures (stride_is _ _ _ _ c.plane_config-c.ensures) c.rows_more-more.ensures
+
 pub returns : goal.returns
 returns c =
     let a = c.args in
-    ap₂ (λ (p q : Bool). p || q) (c.window_exceeds.ensures ∙ is c a.u.now) (c.window_exceeds-2.ensures ∙ is c a.v.now)
-  where
-    is : (c : goal.After-window_exceeds-2) (s : List ℕ) → let a = c.args in exceeds s c.window-at.result c.plane_config-c.result.stride (a.w + c.rows_more-more.result) (a.h + c.rows_more-more.result) ≡ window_exceeds a.t a.pic_w a.pic_h a.gmv a.w a.h s
-    is c s =
-        let a = c.args in
-        examined_is a.t a.pic_w a.pic_h a.gmv a.w a.h s _ _ _ c.window-at.ensures (stride_is _ _ _ _ c.plane_config-c.ensures) c.rows_more-more.ensures
+    ap₂ (λ (p q : Bool). p || q) (c.window_exceeds.ensures ∙ is c.before a.u.now) (c.window_exceeds-2.ensures ∙ is c.before a.v.now)
 
 pub overflow_add-n : goal.overflow_add-n
 overflow_add-n c = let z = sides c.before.before.before.before.before.before in record { fits = omega (arith, z.0.total, z.1.total, c.rows_more-more.ensures) }
