@@ -19,7 +19,7 @@ fn pick<'a>(
 ) -> &'a mut [u16]
     requires { offset ≤ length (cond second pred1 pred0).now }
     ensures result_value { result.now ≡ drop offset (cond second pred1.entry pred0.entry).now }
-    ensures* once_ended { once_ended 𝓛 (search) result (both_end 𝓛 pred0.entry pred1.entry second offset) }
+    ensures* once_ended { once_ended 𝓛 (Prim.search) result (both_end 𝓛 pred0.entry pred1.entry second offset) }
 {
     let pred = if second { pred1 } else { pred0 };
     &mut pred[offset..]
