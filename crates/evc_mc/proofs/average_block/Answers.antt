@@ -92,9 +92,3 @@ pub returns : goal.returns
 returns c =
     done c.args.b c.args.pred0.now c.args.pred1.now (known c.before.before.before.before.before.before.before.before.before.before.before.before.before.before.before.before.before.before.before) _ _ _ _ _ c.cu_dim_offset-offset_u.ensures c.cu_dim_offset-offset_v.ensures
     c.average_plane.ensures c.average_plane-2.ensures c.average_plane-3.ensures
-
-pub overflow_mul-chroma : goal.overflow_mul-chroma
-overflow_mul-chroma c = record { fits = omega (arith, component_room _ (known c.before.before.before.before.before) cb) }
-
-pub overflow_mul-h : goal.overflow_mul-h
-overflow_mul-h c = record { fits = omega (arith, component_room _ (known c.before.before.before.before.before.before.before.before) luma) }

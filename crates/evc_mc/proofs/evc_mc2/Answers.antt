@@ -35,14 +35,11 @@ returns-then-block_code-ne0 c =
     let l = ref_pic_list a.list0 a.y0.now a.u0.now a.v0.now in
     let m = ref_pic_list a.list1 a.y1.now a.u1.now a.v1.now in
     let e = block_refused a.block l m a.pred0.now a.pred1.now _ c.block_code-block_code.ensures c.if-block_code-ne0.true in
-    (silent _ _ _ _ _ e c.if-block_code-ne0.true _ c.refused.ensures, untouched a.block l m a.pred0.now a.pred1.now _ e c.if-block_code-ne0.true)
+    let same = untouched a.block l m a.pred0.now a.pred1.now _ e c.if-block_code-ne0.true in
+    record { result_value = silent _ _ _ _ _ e c.if-block_code-ne0.true _ c.refused.ensures; pred0_after = same.0; pred1_after = same.1 }
 
 good : (c : place.Else1 claims Pre Post clauses) → first_of (block_checks c.args.block) ≡ 0
 good c = sym c.block_code-block_code.ensures ∙ c.if-block_code-ne0.false
-
-pub mc2_code-code-requires : goal.mc2_code-code-requires
-mc2_code-code-requires c =
-    (good c.before.before.before.before.before, c.clipped_place-gmv0.ensures, c.clipped_place-gmv1.ensures)
 
 pub returns-then-code-ne0 : goal.returns-then-code-ne0
 returns-then-code-ne0 c =
@@ -50,35 +47,23 @@ returns-then-code-ne0 c =
     let l = ref_pic_list a.list0 a.y0.now a.u0.now a.v0.now in
     let m = ref_pic_list a.list1 a.y1.now a.u1.now a.v1.now in
     let e = c.mc2_code-code.ensures in
-    (silent _ _ _ _ _ e c.if-code-ne0.true _ c.refused-then-code-ne0.ensures, untouched a.block l m a.pred0.now a.pred1.now _ e c.if-code-ne0.true)
+    let same = untouched a.block l m a.pred0.now a.pred1.now _ e c.if-code-ne0.true in
+    record { result_value = silent _ _ _ _ _ e c.if-code-ne0.true _ c.refused-then-code-ne0.ensures; pred0_after = same.0; pred1_after = same.1 }
 
 accepted : (c : place.Else2 claims Pre Post clauses) → let a = c.args in mc2_code a.block (ref_pic_list a.list0 a.y0.now a.u0.now a.v0.now) (ref_pic_list a.list1 a.y1.now a.u1.now a.v1.now) a.pred0.now a.pred1.now ≡ 0
 accepted c = sym c.mc2_code-code.ensures ∙ c.if-code-ne0.false
-
-pub predict_lists-requires : goal.predict_lists-requires
-predict_lists-requires c = record { gmv0_value = (c.clipped_place-gmv0.ensures, c.clipped_place-gmv1.ensures); pred1_value = accepted c.before.before.before }
-
--- the blocks are predicted, and the reports are left
-checked : (c : place.After-slice_known4 claims Pre Post clauses) → first_of (block_checks c.args.block) ≡ 0
-checked c = good c.before.before.before.before.before.before.before.before.before.before.before.before.before
 
 pub returns : goal.returns
 returns c =
     let a = c.args in
     let l = ref_pic_list a.list0 a.y0.now a.u0.now a.v0.now in
-    let m = ref_pic_list a.list1 a.y1.now a.u1.now a.v1.now in (
-      reports _ _ _ _ _ c.mc2_code-code.ensures (accepted c.before.before.before.before.before.before.before.before.before.before) _ _ c.list_moved.ensures c.list_moved-2.ensures,
-      predicted a.block l m a.pred0.now a.pred1.now (accepted c.before.before.before.before.before.before.before.before.before.before) _ _ c.predict_lists.ensures.pred0_after c.predict_lists.ensures.pred1_after,
-    )
+    let m = ref_pic_list a.list1 a.y1.now a.u1.now a.v1.now in
+    let ok = accepted c.before.before.before.before.before.before.before.before.before.before in
+    let same = predicted a.block l m a.pred0.now a.pred1.now ok _ _ c.predict_lists.ensures.pred0_after c.predict_lists.ensures.pred1_after in
+    record { result_value = reports _ _ _ _ _ c.mc2_code-code.ensures ok _ _ c.list_moved.ensures c.list_moved-2.ensures; pred0_after = same.0; pred1_after = same.1 }
 
 pub clipped_place-gmv0-requires : goal.clipped_place-gmv0-requires
 clipped_place-gmv0-requires c = let parts = allowed_block _ (good c.before.before) in record { allowed = parts.0; allowed_2 = parts.1 }
 
 pub clipped_place-gmv1-requires : goal.clipped_place-gmv1-requires
 clipped_place-gmv1-requires c = let parts = allowed_block _ (good c.before.before.before.before) in record { allowed = parts.0; allowed_2 = parts.1 }
-
-pub list_moved-requires : goal.list_moved-requires
-list_moved-requires c = checked c.before
-
-pub list_moved-requires-2 : goal.list_moved-requires-2
-list_moved-requires-2 c = checked c.before.before

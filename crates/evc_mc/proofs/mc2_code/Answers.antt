@@ -76,12 +76,6 @@ long : (f : place.Else2 claims Pre Post clauses) → let a = f.args in
     (list_short a.b (ref_pic_list a.list0 a.y0.now a.u0.now a.v0.now) ≡ false) × (list_short a.b (ref_pic_list a.list1 a.y1.now a.u1.now a.v1.now) ≡ false)
 long f = none_true _ _ (none_true _ _ (none_true _ _ (sym (short f.before) ∙ f.if-list_short-pred0.false)).0).0
 
-pub list_exceeds-requires : goal.list_exceeds-requires
-list_exceeds-requires c = record { b_value = (c.requires.0, c.requires.1); v_value = (long c.before.before.before.before).0 }
-
-pub list_exceeds-requires-2 : goal.list_exceeds-requires-2
-list_exceeds-requires-2 c = record { b_value = (c.requires.0, c.requires.2); v_value = (long c.before.before.before.before.before).1 }
-
 pub returns-then-list_exceeds : goal.returns-then-list_exceeds
 returns-then-list_exceeds c =
     code_6 _ _ _ _ _ c.requires.0 c.if-not-list0-list1.false (sym (short c.before.before.before.before.before.before.before.before) ∙ c.if-list_short-pred0.false) (sym (poc c.before.before.before.before.before) ∙ c.if-poc_exceeds.false)
