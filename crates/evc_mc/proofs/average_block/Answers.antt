@@ -75,7 +75,7 @@ average_plane-requires-2 c =
     let x = component_room b (known c.before.before.before.before.before.before.before.before.before.before.before.before) luma in
     let r = component_room b (known c.before.before.before.before.before.before.before.before.before.before.before.before) cb in
     let o = c.cu_dim_offset-offset_u.ensures in
-    let k = c.average_plane in record { n_in_bounds = (omega (arith, o, k.auto.0, c.requires.b_value.1), omega (arith, o, c.requires.b_value.2)); row_small = (small_behind _ _ _ _ _ _ _ k.ensures (omega (arith, o)) (row_small b c.args.pred0.now cb _ o c.requires.block_small.0), row_small b c.args.pred1.now cb _ o c.requires.block_small.1) }
+    let k = c.average_plane in record { n_in_bounds = (omega (arith, o, k.auto.pred0, c.requires.b_value.1), omega (arith, o, c.requires.b_value.2)); row_small = (small_behind _ _ _ _ _ _ _ k.ensures (omega (arith, o)) (row_small b c.args.pred0.now cb _ o c.requires.block_small.0), row_small b c.args.pred1.now cb _ o c.requires.block_small.1) }
 
 pub average_plane-requires-3 : goal.average_plane-requires-3
 average_plane-requires-3 c =
@@ -86,7 +86,7 @@ average_plane-requires-3 c =
     let o = c.cu_dim_offset-offset_u.ensures in
     let q = c.cu_dim_offset-offset_v.ensures in
     let k = c.average_plane in
-    let l = c.average_plane-2 in record { n_in_bounds = (omega (arith, q, k.kept.0, l.auto.0, c.requires.b_value.1), omega (arith, q, c.requires.b_value.2)); row_small = (small_behind _ _ _ _ _ _ _ l.ensures (omega (arith, o, q)) (small_behind _ _ _ _ _ _ _ k.ensures (omega (arith, q)) (row_small b c.args.pred0.now cr _ q c.requires.block_small.0)), row_small b c.args.pred1.now cr _ q c.requires.block_small.1) }
+    let l = c.average_plane-2 in record { n_in_bounds = (omega (arith, q, k.auto.pred0, l.auto.pred0, c.requires.b_value.1), omega (arith, q, c.requires.b_value.2)); row_small = (small_behind _ _ _ _ _ _ _ l.ensures (omega (arith, o, q)) (small_behind _ _ _ _ _ _ _ k.ensures (omega (arith, q)) (row_small b c.args.pred0.now cr _ q c.requires.block_small.0)), row_small b c.args.pred1.now cr _ q c.requires.block_small.1) }
 
 pub returns : goal.returns
 returns c =

@@ -1,7 +1,7 @@
 -- `evc_mc::mc2_code` meets its contract: each return is at the first check that refuses. Assumes nothing.
 use mathlib.Core.Bool.{Bool, true, false, not, ◌||◌}
 use mathlib.Core.List.{List}
-use mathlib.Core.Path.{◌≡◌, sym, ap₂, ◌∙◌}
+use mathlib.Core.Path.{◌≡◌, sym, ap, ap₂, ◌∙◌}
 use Prim.Native.Nat.{ℕ}
 use lib.Dec.{ltb}
 use lib.ListN.{length}
@@ -46,7 +46,7 @@ either_is : (a b c d : Bool) → a ≡ c → b ≡ d → (a || b) ≡ (c || d)
 either_is a b c d e f = ap₂ ◌||◌ e f
 
 pub returns-then-not-list0-list1 : goal.returns-then-not-list0-list1
-returns-then-not-list0-list1 c = code_3 _ _ _ _ _ c.requires.0 c.if-not-list0-list1.true
+returns-then-not-list0-list1 c = code_3 _ _ _ _ _ c.requires.0 (ap not c.if-not-list0-list1.true)
 
 picture : (c : place.Else1 claims Pre Post clauses) → bad_picture c.args.b.pic_w c.args.b.pic_h ≡ false
 picture c = (sides _ c.requires.0).picture
@@ -61,7 +61,7 @@ short c =
 
 pub returns-then-list_short-pred0 : goal.returns-then-list_short-pred0
 returns-then-list_short-pred0 c =
-    code_4 _ _ _ _ _ c.requires.0 c.if-not-list0-list1.false (sym (short c.before.before) ∙ c.if-list_short-pred0.true)
+    code_4 _ _ _ _ _ c.requires.0 (ap not c.if-not-list0-list1.false) (sym (short c.before.before) ∙ c.if-list_short-pred0.true)
 
 poc : (c : place.After-poc_exceeds2 claims Pre Post clauses) → let a = c.args in
     (c.poc_exceeds.result || c.poc_exceeds-2.result) ≡ (poc_exceeds a.list0 || poc_exceeds a.list1)
@@ -69,7 +69,7 @@ poc c = ap₂ ◌||◌ c.poc_exceeds.ensures c.poc_exceeds-2.ensures
 
 pub returns-then-poc_exceeds : goal.returns-then-poc_exceeds
 returns-then-poc_exceeds c =
-    code_5 _ _ _ _ _ c.requires.0 c.if-not-list0-list1.false (sym (short c.before.before.before.before.before) ∙ c.if-list_short-pred0.false) (sym (poc c.before.before) ∙ c.if-poc_exceeds.true)
+    code_5 _ _ _ _ _ c.requires.0 (ap not c.if-not-list0-list1.false) (sym (short c.before.before.before.before.before) ∙ c.if-list_short-pred0.false) (sym (poc c.before.before) ∙ c.if-poc_exceeds.true)
 
 -- no plane is short
 long : (f : place.Else2 claims Pre Post clauses) → let a = f.args in
@@ -78,12 +78,12 @@ long f = none_true _ _ (none_true _ _ (none_true _ _ (sym (short f.before) ∙ f
 
 pub returns-then-list_exceeds : goal.returns-then-list_exceeds
 returns-then-list_exceeds c =
-    code_6 _ _ _ _ _ c.requires.0 c.if-not-list0-list1.false (sym (short c.before.before.before.before.before.before.before.before) ∙ c.if-list_short-pred0.false) (sym (poc c.before.before.before.before.before) ∙ c.if-poc_exceeds.false)
+    code_6 _ _ _ _ _ c.requires.0 (ap not c.if-not-list0-list1.false) (sym (short c.before.before.before.before.before.before.before.before) ∙ c.if-list_short-pred0.false) (sym (poc c.before.before.before.before.before) ∙ c.if-poc_exceeds.false)
     (sym (either_is _ _ _ _ c.list_exceeds.ensures c.list_exceeds-2.ensures) ∙ c.if-list_exceeds.true)
 
 pub returns : goal.returns
 returns c =
-    code_0 _ _ _ _ _ c.requires.0 c.if-not-list0-list1.false (sym (short c.before.before.before.before.before.before.before.before) ∙ c.if-list_short-pred0.false) (sym (poc c.before.before.before.before.before) ∙ c.if-poc_exceeds.false)
+    code_0 _ _ _ _ _ c.requires.0 (ap not c.if-not-list0-list1.false) (sym (short c.before.before.before.before.before.before.before.before) ∙ c.if-list_short-pred0.false) (sym (poc c.before.before.before.before.before) ∙ c.if-poc_exceeds.false)
     (sym (either_is _ _ _ _ c.list_exceeds.ensures c.list_exceeds-2.ensures) ∙ c.if-list_exceeds.false)
 
 pub list_short-requires : goal.list_short-requires

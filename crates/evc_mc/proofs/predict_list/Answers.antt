@@ -92,18 +92,18 @@ predict_component-requires c =
 pub predict_component-requires-2 : goal.predict_component-requires-2
 predict_component-requires-2 c =
     let a = c.args in
-    let k = c.predict_component.auto.pred0 in
+    let k = c.predict_component.auto in
     let o = c.cu_dim_offset-offset_u.ensures in
     let v = c.cu_dim_offset-offset_v.ensures in
-    let r = component_room a.b (sides a.b c.requires.b_value.0) cb in record { readable = reads a.b (ref_pic_list a.list a.y.now a.u.now a.v.now) a.gmv cb _ a.pred0.now c.requires.b_value.0 (c.requires.list_examined (used c.before.before.before.before.before.before.before.before.before.before.before.before.before.before) cb) c.requires.pred_len_in_bounds.0 c.position_of-chroma.ensures; w_in_bounds = (omega (arith, k.0, c.requires.pred_len_in_bounds.0), omega (arith, k.1.0, c.requires.pred_len_in_bounds.1)) }
+    let r = component_room a.b (sides a.b c.requires.b_value.0) cb in record { readable = reads a.b (ref_pic_list a.list a.y.now a.u.now a.v.now) a.gmv cb _ a.pred0.now c.requires.b_value.0 (c.requires.list_examined (used c.before.before.before.before.before.before.before.before.before.before.before.before.before.before) cb) c.requires.pred_len_in_bounds.0 c.position_of-chroma.ensures; w_in_bounds = (omega (arith, k.pred0, c.requires.pred_len_in_bounds.0), omega (arith, k.pred1, c.requires.pred_len_in_bounds.1)) }
 
 pub predict_component-requires-3 : goal.predict_component-requires-3
 predict_component-requires-3 c =
     let a = c.args in
-    let k = c.predict_component.kept.1.1.1.1.1 in
-    let m = c.predict_component-2.auto.pred0 in
+    let k = c.predict_component.auto in
+    let m = c.predict_component-2.auto in
     let o = c.cu_dim_offset-offset_v.ensures in
-    let r = component_room a.b (sides a.b c.requires.b_value.0) cr in record { readable = reads a.b (ref_pic_list a.list a.y.now a.u.now a.v.now) a.gmv cr _ a.pred0.now c.requires.b_value.0 (c.requires.list_examined (used c.before.before.before.before.before.before.before.before.before.before.before.before.before.before.before.before.before.before.before.before.before) cr) c.requires.pred_len_in_bounds.0 c.position_of-chroma.ensures; w_in_bounds = (omega (arith, k.0, m.0, c.requires.pred_len_in_bounds.0), omega (arith, k.1.0, m.1.0, c.requires.pred_len_in_bounds.1)) }
+    let r = component_room a.b (sides a.b c.requires.b_value.0) cr in record { readable = reads a.b (ref_pic_list a.list a.y.now a.u.now a.v.now) a.gmv cr _ a.pred0.now c.requires.b_value.0 (c.requires.list_examined (used c.before.before.before.before.before.before.before.before.before.before.before.before.before.before.before.before.before.before.before.before.before) cr) c.requires.pred_len_in_bounds.0 c.position_of-chroma.ensures; w_in_bounds = (omega (arith, k.pred0, m.pred0, c.requires.pred_len_in_bounds.0), omega (arith, k.pred1, m.pred1, c.requires.pred_len_in_bounds.1)) }
 
 pub returns : goal.returns
 returns c =

@@ -31,14 +31,14 @@ pub returns-then-both-same_motion : goal.returns-then-both-same_motion
 returns-then-both-same_motion c =
     let a = c.args in
     let t = both_true (a.list0.used && a.list1.used) c.same_motion.result c.if-both-same_motion.true in
-    let p = c.predict_list.ensures in let parts = stands a.b (ref_pic_list a.list0 a.y0.now a.u0.now a.v0.now) (ref_pic_list a.list1 a.y1.now a.u1.now a.v1.now) a.pred0.now a.pred1.now _ _ p.0 p.1 (both_true _ _ t.0).0 (same a.b (ref_pic_list a.list0 a.y0.now a.u0.now a.v0.now) (ref_pic_list a.list1 a.y1.now a.u1.now a.v1.now) (sym (motion c.before.before) ∙ t.1)) in record { pred0_after = parts.0; pred1_after = parts.1 }
+    let p = c.predict_list.ensures in let parts = stands a.b (ref_pic_list a.list0 a.y0.now a.u0.now a.v0.now) (ref_pic_list a.list1 a.y1.now a.u1.now a.v1.now) a.pred0.now a.pred1.now _ _ p.pred0_after p.pred1_after (both_true _ _ t.0).0 (same a.b (ref_pic_list a.list0 a.y0.now a.u0.now a.v0.now) (ref_pic_list a.list1 a.y1.now a.u1.now a.v1.now) (sym (motion c.before.before) ∙ t.1)) in record { pred0_after = parts.0; pred1_after = parts.1 }
 
 pub predict_list-requires-2 : goal.predict_list-requires-2
 predict_list-requires-2 c =
     let a = c.args in
     let g = good c.before.before.before.before.before.before.before.before.before.before.before.before.before.before.before.before.before.before.before.before.before.before in
     let e = c.requires.gmv0_value.1 in
-    let n = c.predict_list.auto.pred0 in record { b_value = (g.block, e); list_examined = list_examined a.b (ref_pic_list a.list1 a.y1.now a.u1.now a.v1.now) _ g.m_short g.m_exceeds e; pred_len_in_bounds = (omega (arith, n.0, g.p_long), omega (arith, n.1.0, g.q_long)) }
+    let n = c.predict_list.auto in record { b_value = (g.block, e); list_examined = list_examined a.b (ref_pic_list a.list1 a.y1.now a.u1.now a.v1.now) _ g.m_short g.m_exceeds e; pred_len_in_bounds = (omega (arith, n.pred0, g.p_long), omega (arith, n.pred1, g.q_long)) }
 
 -- one list is in use
 pub returns-else-both : goal.returns-else-both
@@ -46,7 +46,7 @@ returns-else-both c =
     let a = c.args in
     let g = good c.before.before.before.before.before.before.before.before.before.before.before.before.before.before.before.before.before.before.before.before.before.before.before.before.before.before.before.before in
     let p = c.predict_list.ensures in
-    let q = c.predict_list-2.ensures in let parts = single a.b (ref_pic_list a.list0 a.y0.now a.u0.now a.v0.now) (ref_pic_list a.list1 a.y1.now a.u1.now a.v1.now) a.pred0.now a.pred1.now _ _ p.0 p.1 _ _ q.0 q.1 g.some_used c.if-both.false in record { pred0_after = parts.0; pred1_after = parts.1 }
+    let q = c.predict_list-2.ensures in let parts = single a.b (ref_pic_list a.list0 a.y0.now a.u0.now a.v0.now) (ref_pic_list a.list1 a.y1.now a.u1.now a.v1.now) a.pred0.now a.pred1.now _ _ p.pred0_after p.pred1_after _ _ q.pred0_after q.pred1_after g.some_used c.if-both.false in record { pred0_after = parts.0; pred1_after = parts.1 }
 
 -- two predictions
 pub average_block-requires : goal.average_block-requires
@@ -56,10 +56,10 @@ average_block-requires c =
     let x = c.predict_list in
     let y = c.predict_list-2 in
     let t = both_true a.list0.used a.list1.used c.if-both.true in
-    let n = x.kept.1.1.1.1.1.1 in
-    let m = y.auto.1.1.1.1.1.1 in record {
-      b_value = (g.block, omega (arith, n.0, m.0, g.p_long), omega (arith, n.1.0, m.1.0, g.q_long));
-      block_small = both_small a.b (ref_pic_list a.list0 a.y0.now a.u0.now a.v0.now) (ref_pic_list a.list1 a.y1.now a.u1.now a.v1.now) a.pred0.now a.pred1.now _ _ x.ensures.0 x.ensures.1 _ _ y.ensures.0 y.ensures.1 t.0 t.1
+    let n = x.auto in
+    let m = y.auto in record {
+      b_value = (g.block, omega (arith, n.pred0, m.pred0, g.p_long), omega (arith, n.pred1, m.pred1, g.q_long));
+      block_small = both_small a.b (ref_pic_list a.list0 a.y0.now a.u0.now a.v0.now) (ref_pic_list a.list1 a.y1.now a.u1.now a.v1.now) a.pred0.now a.pred1.now _ _ x.ensures.pred0_after x.ensures.pred1_after _ _ y.ensures.pred0_after y.ensures.pred1_after t.0 t.1
           (sides a.b g.block) g.p_long g.q_long g.block g.l_short g.l_exceeds g.m_short g.m_exceeds;
     }
 
@@ -71,5 +71,5 @@ returns-then-both c =
     let y = c.predict_list-2 in
     let both = c.if-both.true in
     let t = both_true a.list0.used a.list1.used both in
-    let differs = sym (motion c.before.before.before.before.before.before.before.before.before.before.before.before.before.before) ∙ and_false_right (a.list0.used && a.list1.used) _ c.if-both-same_motion.false both in let parts = averaged a.b (ref_pic_list a.list0 a.y0.now a.u0.now a.v0.now) (ref_pic_list a.list1 a.y1.now a.u1.now a.v1.now) a.pred0.now a.pred1.now _ _ x.ensures.0 x.ensures.1 _ _ y.ensures.0 y.ensures.1 t.0 t.1
+    let differs = sym (motion c.before.before.before.before.before.before.before.before.before.before.before.before.before.before) ∙ and_false_right (a.list0.used && a.list1.used) _ c.if-both-same_motion.false both in let parts = averaged a.b (ref_pic_list a.list0 a.y0.now a.u0.now a.v0.now) (ref_pic_list a.list1 a.y1.now a.u1.now a.v1.now) a.pred0.now a.pred1.now _ _ x.ensures.pred0_after x.ensures.pred1_after _ _ y.ensures.pred0_after y.ensures.pred1_after t.0 t.1
     (sides a.b g.block) g.p_long g.q_long _ (not_same a.b (ref_pic_list a.list0 a.y0.now a.u0.now a.v0.now) (ref_pic_list a.list1 a.y1.now a.u1.now a.v1.now) both differs) c.average_block.ensures in record { pred0_after = parts.0; pred1_after = parts.1 }

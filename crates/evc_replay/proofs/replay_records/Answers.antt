@@ -47,14 +47,14 @@ replay_record-record-requires c =
 number : (c : place.After-replay_record claims Pre Post goal.the-invariant-loop-at goal.the-decreases-loop-at clauses) → c.replay_record-record.result.code ≡ record_code (from c.before.before.before.before.before.before.before.before.before.before.before.before.before.before.before.before.before.before.before.before) c.record_at.result.now
 number c = ap (λ (p : EvcPredicted). p.code) c.replay_record-record.ensures.result_value
 
+small : (s : place.Start claims Pre Post goal.the-invariant-loop-at goal.the-decreases-loop-at clauses) → length s.args.trace.now < 18446744073709551616
+small s = omega arith
+
 -- it was not refused, so it is complete
 room : (c : place.Else1 claims Pre Post goal.the-invariant-loop-at goal.the-decreases-loop-at clauses) → (c.loop-at.at + 22 ≤ length c.args.trace.now) × (length c.args.trace.now < 18446744073709551616)
 room c =
     let a = c.args in
-    (complete (from c.before.before.before.before.before.before.before.before.before.before.before.before.before.before.before.before.before.before.before.before.before.before.before.before.before.before.before.before.before.before) a.trace.now c.loop-at.at c.loop-at.index (target c.before.before.before.before.before.before.before.before.before.before.before.before.before.before.before.before.before.before) _ c.record_at.ensures (sym (number c.before.before.before.before.before.before.before.before.before.before) ∙ c.if-record-ne0.false), small c)
-  where
-    small : (s : place.Start claims Pre Post goal.the-invariant-loop-at goal.the-decreases-loop-at clauses) → length s.args.trace.now < 18446744073709551616
-    small s = omega arith
+    (complete (from c.before.before.before.before.before.before.before.before.before.before.before.before.before.before.before.before.before.before.before.before.before.before.before.before.before.before.before.before.before.before) a.trace.now c.loop-at.at c.loop-at.index (target c.before.before.before.before.before.before.before.before.before.before.before.before.before.before.before.before.before.before) _ c.record_at.ensures (sym (number c.before.before.before.before.before.before.before.before.before.before) ∙ c.if-record-ne0.false), small c.before.before.before.before.before.before.before.before.before.before.before.before.before.before.before.before.before.before.before.before.before.before.before.before.before.before.before.before.before.before)
 
 pub returns-then-record-ne0 : goal.returns-then-record-ne0
 returns-then-record-ne0 c =
