@@ -93,8 +93,8 @@ unfoldable pub block_code : Source → EvcTraceRecord → ℕ
 block_code e r = mc2_code (block_of e.header r) (ref_list0 e r) (ref_list1 e r) blank blank
 
 -- the first number, or the second where the first is 0
-infixr 60 ◌orElse◌
-abbrev pub ◌orElse◌ : ℕ → ℕ → ℕ
+infixr 60 ◌or_else◌
+abbrev pub ◌or_else◌ : ℕ → ℕ → ℕ
 a or_else b = cond (eqb a 0) b a
 
 -- "and the direct call's or block's own number"
