@@ -11,34 +11,9 @@ use Rattle.evc_record.proofs.copy_block.Lts as place
 use Rattle.evc_record.proofs.copy_block.Reads.{Pre, Post}
 use Rattle.evc_record.proofs.copy_block.Tie.{the-claims as claims}
 
--- row y lies within both
-rows : (c : place.In-loop claims Pre Post goal.the-invariant-loop-y goal.the-decreases-loop-y) → let a = c.args in let y = c.loop-y.y in (a.at + y * a.w + a.w ≤ length a.s.now) × (a.to + y * a.stride + a.w ≤ length a.d.now)
-rows c =
-    let a = c.args in
-    let p = c.requires in
-    (omega (arith, row_fits a.w c.loop-y-test.true), omega (arith, row_fits a.stride c.loop-y-test.true))
-
 pub loop-y-init : goal.loop-y-init
 unfolding with_block
 loop-y-init c = (omega arith, refl, refl)
-
-room : (s : place.Start claims Pre Post goal.the-invariant-loop-y goal.the-decreases-loop-y) → length s.args.d.now < 18446744073709551616
-room s = omega arith
-
-pub overflow_mul-y : goal.overflow_mul-y
-overflow_mul-y c = let r = (rows c.before.before.before).1 in let l = room c.before.before.before.before.before.before.before in omega arith
-
-pub overflow_add-to : goal.overflow_add-to
-overflow_add-to c = let r = (rows c.before.before.before).1 in let l = room c.before.before.before.before.before.before.before in omega arith
-
-pub copy_row-requires : goal.copy_row-requires
-copy_row-requires c =
-    let r = rows c.before.before.before in
-    let a = c.args in (
-      (rw c.row_of.ensures (simp length-drop (omega (arith, r.0)))),
-      (let e = c.loop-y.invariant.1 in omega (arith, r.1)),
-      c.requires.2,
-    )
 
 pub loop-y-preserved : goal.loop-y-preserved
 loop-y-preserved c =
@@ -48,18 +23,3 @@ loop-y-preserved c =
       c.copy_row.auto.d ∙ l.invariant.1,
       block_step _ _ _ _ _ _ _ _ l.invariant.2 (row_copied a.s.now _ l.d _ (a.at + l.y * a.w) a.w (a.to + l.y * a.stride) c.row_of.ensures c.copy_row.ensures),
     )
-
-pub returns : goal.returns
-returns c = let i = c.loop-y.invariant in block_done _ _ _ _ _ _ _ _ i.2 i.0 c.loop-y-test.false
-
-pub row_of-requires : goal.row_of-requires
-row_of-requires c = omega (arith, (rows c.before).0)
-
-pub overflow_step-y : goal.overflow_step-y
-overflow_step-y c = let t = c.loop-y-test.true in let h = c.ranges.h in omega arith
-
-pub loop-y-smaller : goal.loop-y-smaller
-loop-y-smaller c = let t = c.loop-y-test.true in omega arith
-
-pub shape_of-d : goal.shape_of-d
-shape_of-d c = c.loop-y.invariant.1

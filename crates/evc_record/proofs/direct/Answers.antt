@@ -8,9 +8,6 @@ returns-then-code-ne0 c =
     let a = c.args in
     refusal a.b a.p a.has_col a.col_mv.now _ c.direct_code-code.ensures c.if-code-ne0.true
 
-pub direct_mv-requires : goal.direct_mv-requires
-direct_mv-requires c = sym c.direct_code-code.ensures ∙ c.if-code-ne0.false
-
 pub returns : goal.returns
 returns c =
     let a = c.args in

@@ -38,17 +38,8 @@ test c =
 pub returns-then-s-lt-RECORD_LEN : goal.returns-then-s-lt-RECORD_LEN
 returns-then-s-lt-RECORD_LEN c = code_11 _ c.if-s-lt-RECORD_LEN.true
 
-pub read_record-r-requires : goal.read_record-r-requires
-read_record-r-requires c = search rules
-
-pub is_well_formed-requires : goal.is_well_formed-requires
-is_well_formed-requires c = search rules
-
-pub bounds-s-21 : goal.bounds-s-21
-bounds-s-21 c = search rules
-
 pub returns-then-not-is_well_formed-s : goal.returns-then-not-is_well_formed-s
-returns-then-not-is_well_formed-s c = code_12 _ c.if-s-lt-RECORD_LEN.false (sym (test c.before.before) ∙ c.if-not-is_well_formed-s.true)
+returns-then-not-is_well_formed-s c = code_12 _ c.if-s-lt-RECORD_LEN.false (sym (test c.before.before) ∙ ap not c.if-not-is_well_formed-s.true)
 
 pub returns : goal.returns
-returns c = code_0 _ c.if-s-lt-RECORD_LEN.false (sym (test c.before.before) ∙ c.if-not-is_well_formed-s.false)
+returns c = code_0 _ c.if-s-lt-RECORD_LEN.false (sym (test c.before.before) ∙ ap not c.if-not-is_well_formed-s.false)

@@ -23,15 +23,6 @@ module _ (h : TraceHeader) (has : Bool) (col : List ℤ) (r : EvcTraceRecord) wh
   unfolding motion_of
   own n = rw (ne_eqb r.kind 3 n)
 
-pub block_of-requires : goal.block_of-requires
-block_of-requires c = search rules
-
-pub pocs_of-requires : goal.pocs_of-requires
-pocs_of-requires c = search rules
-
-pub direct-requires : goal.direct-requires
-direct-requires c = search rules
-
 pub returns-then-r-eq3 : goal.returns-then-r-eq3
 returns-then-r-eq3 c = of_kind_3 _ _ _ _ _ _ _ c.if-r-eq3.true c.block_of.ensures c.pocs_of.ensures c.direct.ensures
 

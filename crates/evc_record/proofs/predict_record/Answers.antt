@@ -3,24 +3,6 @@ use borrow.Author.Rules.{rules}
 use Rattle.evc_record.proofs.Steps.{predicted}
 use Rattle.evc_record.proofs.predict_record.Goals as goal
 
-pub block_of-b-requires : goal.block_of-b-requires
-block_of-b-requires c = search rules
-
-pub list0-l0-requires : goal.list0-l0-requires
-list0-l0-requires c = search rules
-
-pub list1-l1-requires : goal.list1-l1-requires
-list1-l1-requires c = search rules
-
-pub evc_mc2-requires : goal.evc_mc2-requires
-evc_mc2-requires c = search rules
-
-pub shape_of-pred0 : goal.shape_of-pred0
-shape_of-pred0 c = search rules
-
-pub shape_of-pred1 : goal.shape_of-pred1
-shape_of-pred1 c = search rules
-
 pub returns : goal.returns
 returns c =
     let a = c.args in let parts = predicted _ _ _ _ _ _ a.y0.now a.u0.now a.v0.now a.y1.now a.u1.now a.v1.now a.pred0.now a.pred1.now _ _ c.requires.0 c.requires.1

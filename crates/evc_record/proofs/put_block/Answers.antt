@@ -7,12 +7,6 @@ use Rattle.evc_record.specs.Record.{planes}
 use Rattle.evc_record.proofs.Places.{long_enough, component_in, component_put}
 use Rattle.evc_record.proofs.put_block.Goals as goal
 
-pub cu_dim_offset-offset_u-requires : goal.cu_dim_offset-offset_u-requires
-cu_dim_offset-offset_u-requires c = search rules
-
-pub cu_dim_offset-offset_v-requires : goal.cu_dim_offset-offset_v-requires
-cu_dim_offset-offset_v-requires c = search rules
-
 pub put_component-requires : goal.put_component-requires
 put_component-requires c =
     let a = c.args in record { b_value = c.requires.b_value.0; w_in_bounds = (component_in a.b c.requires.b_value.0 luma _ c.requires.b_value.1, (long_enough _ _ (planes a.y.now a.u.now a.v.now) c.requires.v_value).0) }
@@ -24,15 +18,6 @@ put_component-requires-2 c =
 pub put_component-requires-3 : goal.put_component-requires-3
 put_component-requires-3 c =
     let a = c.args in record { b_value = c.requires.b_value.0; w_in_bounds = (omega (arith, component_in a.b c.requires.b_value.0 cr _ c.requires.b_value.1, c.cu_dim_offset-offset_v.ensures), (long_enough _ _ (planes a.y.now a.u.now a.v.now) c.requires.v_value).2) }
-
-pub shape_of-y : goal.shape_of-y
-shape_of-y c = search rules
-
-pub shape_of-u : goal.shape_of-u
-shape_of-u c = search rules
-
-pub shape_of-v : goal.shape_of-v
-shape_of-v c = search rules
 
 pub returns : goal.returns
 returns c =

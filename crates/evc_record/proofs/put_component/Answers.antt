@@ -25,23 +25,11 @@ room s = omega arith
 pub plane_config-c-requires : goal.plane_config-c-requires
 plane_config-c-requires c = (sides c.args.b c.requires.b_value).picture
 
-pub side-requires : goal.side-requires
-side-requires c = search rules
-
 pub overflow_add-x : goal.overflow_add-x
 overflow_add-x c = omega (arith, column_small c.args.t c.args.b c.requires.b_value _ c.plane_config-c.ensures _ c.side.ensures)
 
-pub side-requires-2 : goal.side-requires-2
-side-requires-2 c = search rules
-
 pub overflow_add-y : goal.overflow_add-y
 overflow_add-y c = omega (arith, row_small c.args.t c.args.b c.requires.b_value _ c.plane_config-c.ensures _ c.side-2.ensures)
-
-pub side-w-requires : goal.side-w-requires
-side-w-requires c = search rules
-
-pub side-h-requires : goal.side-h-requires
-side-h-requires c = search rules
 
 pub overflow_mul-y : goal.overflow_mul-y
 overflow_mul-y c = let k = placed c.before in let l = room c.before.before.before.before.before.before.before.before.before.before.before.before in omega arith
@@ -57,9 +45,6 @@ copy_block-requires c =
   where
     rows : (w h w' h' o n : ℕ) → w ≡ w' → h ≡ h' → o + h' * w' ≤ n → o + h * w ≤ n
     rows w h w' h' o n e f l = rw (e, f) l
-
-pub shape_of-plane : goal.shape_of-plane
-shape_of-plane c = search rules
 
 pub returns : goal.returns
 returns c =

@@ -46,10 +46,6 @@ returns-then-m-ne0 c =
     let a = c.args in
     let e = code_motion a.h (ref0 c.before.before.before.before.before.before.before.before.before.before.before.before.before.before.before.before.before.before.before.before) (ref1 c.before.before.before.before.before.before.before.before.before.before.before.before.before.before.before.before.before.before.before.before) a.has_col a.col_mv.now a.s.now (form c.before.before.before.before) _ (sym c.read_record-r.ensures) _ (sym c.motion-m.ensures) c.if-m-ne0.true in record { result_value = silent _ _ _ _ _ e c.if-m-ne0.true _ c.refused-then-m-ne0.ensures; v_after = kept a.h (ref0 c.before.before.before.before.before.before.before.before.before.before.before.before.before.before.before.before.before.before.before.before) (ref1 c.before.before.before.before.before.before.before.before.before.before.before.before.before.before.before.before.before.before.before.before) a.has_col a.col_mv.now a.s.now (target c.before.before.before.before.before.before.before.before.before.before.before.before.before.before.before.before.before.before.before.before) _ e c.if-m-ne0.true }
 
--- ---- predicted: what the block prediction returns is the record's answer
-pub predict_record-predicted-requires : goal.predict_record-predicted-requires
-predict_record-predicted-requires c = c.requires.pred0_len
-
 answer : (c : place.After-predict_record claims Pre Post clauses) → c.predict_record-predicted.result ≡ record_answer (from c.before.before.before.before.before.before.before.before.before.before.before.before.before.before.before.before.before.before.before.before.before) c.args.s.now
 answer c =
     let a = c.args in
@@ -68,24 +64,24 @@ accepted c = sym (ap (λ (p : EvcPredicted). p.code) c.predict_record-predicted.
 pub put_block-requires : goal.put_block-requires
 put_block-requires c =
     let a = c.args in
-    let g = good_block a.h (ref0 c.before.before.before.before.before.before.before.before.before.before.before.before.before.before.before.before.before.before.before.before.before.before.before.before.before.before.before.before.before.before.before.before) (ref1 c.before.before.before.before.before.before.before.before.before.before.before.before.before.before.before.before.before.before.before.before.before.before.before.before.before.before.before.before.before.before.before.before) a.has_col a.col_mv.now a.s.now (form c.before.before.before.before.before.before.before.before.before.before.before.before.before.before.before.before) _ (sym c.read_record-r.ensures) _ (sym c.motion-m.ensures) c.if-m-ne0.left (accepted c.before.before.before.before.before) in
+    let g = good_block a.h (ref0 c.before.before.before.before.before.before.before.before.before.before.before.before.before.before.before.before.before.before.before.before.before.before.before.before.before.before.before.before.before.before.before.before) (ref1 c.before.before.before.before.before.before.before.before.before.before.before.before.before.before.before.before.before.before.before.before.before.before.before.before.before.before.before.before.before.before.before.before) a.has_col a.col_mv.now a.s.now (form c.before.before.before.before.before.before.before.before.before.before.before.before.before.before.before.before) _ (sym c.read_record-r.ensures) _ (sym c.motion-m.ensures) c.if-m-ne0.false (accepted c.before.before.before.before.before) in
     let b = sym c.block_of.ensures in
-    let l = c.predict_record-predicted.kept.1.1.1.1.1.1.1.1.1.0 in record { b_value = (subst (λ (b : EvcBlock). first_of (block_checks b) ≡ 0) b g, omega (arith, l, c.requires.pred0_len.0)); v_value = subst (λ (b : EvcBlock). picture_short b.pic_w b.pic_h (target c.before.before.before.before.before.before.before.before.before.before.before.before.before.before.before.before.before.before.before.before.before.before.before.before.before.before.before.before.before.before.before.before) ≡ false) b c.requires.v_value }
+    let l = c.predict_record-predicted.auto.pred0 in record { b_value = (subst (λ (b : EvcBlock). first_of (block_checks b) ≡ 0) b g, omega (arith, l, c.requires.pred0_len.0)); v_value = subst (λ (b : EvcBlock). picture_short b.pic_w b.pic_h (target c.before.before.before.before.before.before.before.before.before.before.before.before.before.before.before.before.before.before.before.before.before.before.before.before.before.before.before.before.before.before.before.before) ≡ false) b c.requires.v_value }
 
 pub returns : goal.returns
 returns c =
     let a = c.args in
     let er = sym c.read_record-r.ensures in
     let em = sym c.motion-m.ensures in
-    let direct = c.if-m-ne0.left in
+    let direct = c.if-m-ne0.false in
     let e = accepted c.before.before.before.before.before.before.before.before.before.before.before.before in
-    let d = c.predict_record-predicted.ensures.pred0_after c.if-predicted-ne0.left in
+    let d = c.predict_record-predicted.ensures.pred0_after c.if-predicted-ne0.false in
     let l = c.requires.pred0_len.0 in
     let b = c.block_of.ensures in
     let w = c.put_block.ensures in record {
       result_value = answer c.before.before.before.before.before.before.before.before.before.before.before.before.before.before.before.before.before.before;
       v_after = all_planes a.h (ref0 c.before.before.before.before.before.before.before.before.before.before.before.before.before.before.before.before.before.before.before.before.before.before.before.before.before.before.before.before.before.before.before.before.before.before.before.before.before.before.before) (ref1 c.before.before.before.before.before.before.before.before.before.before.before.before.before.before.before.before.before.before.before.before.before.before.before.before.before.before.before.before.before.before.before.before.before.before.before.before.before.before.before) a.has_col a.col_mv.now a.s.now (form c.before.before.before.before.before.before.before.before.before.before.before.before.before.before.before.before.before.before.before.before.before.before.before) _ er _ em direct e a.y.now a.u.now a.v.now _ _ _
-          (one_plane a.h (ref0 c.before.before.before.before.before.before.before.before.before.before.before.before.before.before.before.before.before.before.before.before.before.before.before.before.before.before.before.before.before.before.before.before.before.before.before.before.before.before.before) (ref1 c.before.before.before.before.before.before.before.before.before.before.before.before.before.before.before.before.before.before.before.before.before.before.before.before.before.before.before.before.before.before.before.before.before.before.before.before.before.before.before) a.has_col a.col_mv.now a.s.now (form c.before.before.before.before.before.before.before.before.before.before.before.before.before.before.before.before.before.before.before.before.before.before.before) _ er _ em direct e luma a.y.now _ _ a.pred0.now _ b (omega (arith, l)) d w.0)
-          (one_plane a.h (ref0 c.before.before.before.before.before.before.before.before.before.before.before.before.before.before.before.before.before.before.before.before.before.before.before.before.before.before.before.before.before.before.before.before.before.before.before.before.before.before.before) (ref1 c.before.before.before.before.before.before.before.before.before.before.before.before.before.before.before.before.before.before.before.before.before.before.before.before.before.before.before.before.before.before.before.before.before.before.before.before.before.before.before) a.has_col a.col_mv.now a.s.now (form c.before.before.before.before.before.before.before.before.before.before.before.before.before.before.before.before.before.before.before.before.before.before.before) _ er _ em direct e cb a.u.now _ _ a.pred0.now _ b (omega (arith, l)) d w.1.0)
-          (one_plane a.h (ref0 c.before.before.before.before.before.before.before.before.before.before.before.before.before.before.before.before.before.before.before.before.before.before.before.before.before.before.before.before.before.before.before.before.before.before.before.before.before.before.before) (ref1 c.before.before.before.before.before.before.before.before.before.before.before.before.before.before.before.before.before.before.before.before.before.before.before.before.before.before.before.before.before.before.before.before.before.before.before.before.before.before.before) a.has_col a.col_mv.now a.s.now (form c.before.before.before.before.before.before.before.before.before.before.before.before.before.before.before.before.before.before.before.before.before.before.before) _ er _ em direct e cr a.v.now _ _ a.pred0.now _ b (omega (arith, l)) d w.1.1);
+          (one_plane a.h (ref0 c.before.before.before.before.before.before.before.before.before.before.before.before.before.before.before.before.before.before.before.before.before.before.before.before.before.before.before.before.before.before.before.before.before.before.before.before.before.before.before) (ref1 c.before.before.before.before.before.before.before.before.before.before.before.before.before.before.before.before.before.before.before.before.before.before.before.before.before.before.before.before.before.before.before.before.before.before.before.before.before.before.before) a.has_col a.col_mv.now a.s.now (form c.before.before.before.before.before.before.before.before.before.before.before.before.before.before.before.before.before.before.before.before.before.before.before) _ er _ em direct e luma a.y.now _ _ a.pred0.now _ b (omega (arith, l)) d w.y_after)
+          (one_plane a.h (ref0 c.before.before.before.before.before.before.before.before.before.before.before.before.before.before.before.before.before.before.before.before.before.before.before.before.before.before.before.before.before.before.before.before.before.before.before.before.before.before.before) (ref1 c.before.before.before.before.before.before.before.before.before.before.before.before.before.before.before.before.before.before.before.before.before.before.before.before.before.before.before.before.before.before.before.before.before.before.before.before.before.before.before) a.has_col a.col_mv.now a.s.now (form c.before.before.before.before.before.before.before.before.before.before.before.before.before.before.before.before.before.before.before.before.before.before.before) _ er _ em direct e cb a.u.now _ _ a.pred0.now _ b (omega (arith, l)) d w.u_after)
+          (one_plane a.h (ref0 c.before.before.before.before.before.before.before.before.before.before.before.before.before.before.before.before.before.before.before.before.before.before.before.before.before.before.before.before.before.before.before.before.before.before.before.before.before.before.before) (ref1 c.before.before.before.before.before.before.before.before.before.before.before.before.before.before.before.before.before.before.before.before.before.before.before.before.before.before.before.before.before.before.before.before.before.before.before.before.before.before.before) a.has_col a.col_mv.now a.s.now (form c.before.before.before.before.before.before.before.before.before.before.before.before.before.before.before.before.before.before.before.before.before.before.before) _ er _ em direct e cr a.v.now _ _ a.pred0.now _ b (omega (arith, l)) d w.v_after);
     }
