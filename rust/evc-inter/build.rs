@@ -6,7 +6,7 @@ use std::{env, fs};
 
 const ARCHIVE: &str = "libevc_inter.a";
 const VARIABLE: &str = "EVC_INTER_ARCHIVE_DIR";
-const MAKE: &str = "run `rt staticlib evc_inter` at the root of the repository";
+const MAKE: &str = "run `rust/archive` at the root of the repository";
 
 /// What the archive is made for, as Cargo names it.
 const MADE_FOR: [(&str, &str); 3] = [
@@ -88,15 +88,28 @@ fn warn_if_stale(archive: &Path, root: &Path) {
     if !crates.is_dir() {
         return;
     }
-    println!("cargo::rerun-if-changed={}", crates.display());
+    for source in sources(&crates).chain([root.join("crates.txt")]) {
+        println!("cargo::rerun-if-changed={}", source.display());
+    }
     let made = fs::metadata(archive).and_then(|archive| archive.modified());
-    if let Some(source) = made.ok().and_then(|made| newer_source(&crates, made)) {
+    if let Some(source) = made
+        .ok()
+        .and_then(|made| sources(&crates).find_map(|it| newer_source(&it, made)))
+    {
         let source = source.strip_prefix(&crates).unwrap_or(&source);
         println!(
             "cargo::warning={ARCHIVE} is stale: crates/{} is newer; {MAKE} to make it again",
             source.display()
         );
     }
+}
+
+/// The folders of a crate that it is made from. Beside them `out` has what `rt` keeps, copies of sources among it.
+fn sources(crates: &Path) -> impl Iterator<Item = PathBuf> {
+    let crates = fs::read_dir(crates).into_iter().flatten().flatten();
+    crates
+        .flat_map(|it| ["src", "specs", "proofs"].map(|part| it.path().join(part)))
+        .filter(|it| it.is_dir())
 }
 
 /// A source in this folder that is newer than the archive, if there is one.

@@ -47,10 +47,10 @@
 //! # Requirements
 //!
 //! Rust 1.84 or later, and nothing beside its standard library. x86-64 Linux, for which the archive of
-//! the proved calls is made. The Rattle toolchain `rattle-kit-5` to make it: `rt staticlib evc_inter` at
-//! the root of the repository writes `target/staticlib/libevc_inter.a`, where the build script looks for
-//! it. `EVC_INTER_ARCHIVE_DIR`, an absolute path, names another folder; if it is empty, it is as if it
-//! were not set.
+//! the proved calls is made. The Rattle toolchain `rattle-kit-13f` to make it: `rust/archive` at the root
+//! of the repository writes `target/staticlib/libevc_inter.a`, where the build script looks for it.
+//! `EVC_INTER_ARCHIVE_DIR`, an absolute path, names another folder; if it is empty, it is as if it were
+//! not set.
 
 #![deny(missing_docs)]
 

@@ -60,7 +60,7 @@ fn archive() {
     let ways = text
         .strip_prefix(&missing(&made_in))
         .unwrap_or_else(|| panic!("{text}"));
-    assert!(ways.starts_with("run `rt staticlib evc_inter`"), "{ways}");
+    assert!(ways.starts_with("run `rust/archive`"), "{ways}");
     assert!(ways.contains("EVC_INTER_ARCHIVE_DIR"), "{ways}");
     for variable in [None, Some("")] {
         let text = error(&installed, variable);
