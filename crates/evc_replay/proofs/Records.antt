@@ -6,7 +6,7 @@ use Prim.Native.Nat.{ℕ, zero, suc, ◌+◌, ◌-◌, ◌/◌, ◌<◌, ◌≤�
 use native.Mathlib.Omega.{arith}
 use borrow.Author.Tests.{ne_eqb}
 use lib.ListN.{length, take, drop, length-take, length-drop}
-use Rattle.evc_record.specs.Record.{Planes, Source, ◌orElse◌, form_code, record_code, target_after}
+use Rattle.evc_record.specs.Record.{Planes, Source, ◌or_else◌, form_code, record_code, target_after}
 use Rattle.evc_record.specs.Inner.{after_record}
 use Rattle.evc_replay.specs.Replay.{Answer, Replayed, records_at, records_from, applied}
 use Rattle.evc_record.proofs.Steps.{whole_record}

@@ -19,7 +19,7 @@ use Rattle.evc_mc.specs.Block.{mc2_code}
 use Rattle.evc_trace.specs.Format.{count_len, record_of}
 use Rattle.evc_trace.specs.declared.TraceHeader.{TraceHeader}
 use Rattle.evc_trace.specs.declared.EvcTraceRecord.{EvcTraceRecord}
-use Rattle.evc_record.specs.Record.{Planes, Source, motion_of, ◌orElse◌, form_code, block_code, record_code, target_after}
+use Rattle.evc_record.specs.Record.{Planes, Source, motion_of, ◌or_else◌, form_code, block_code, record_code, target_after}
 use Rattle.evc_replay.specs.Replay.{Replayed, header_code, records_at, records_from, applied}
 use Rattle.evc_replay.proofs.Records.{next_record}
 

@@ -38,7 +38,7 @@ pub replay_records-requires : goal.replay_records-requires
 replay_records-requires c =
     let a = c.args in
     let g = good_header a.trace.now (ref0 c.before.before.before.before.before.before.before.before.before.before.before.before.before.before.before.before.before) (ref1 c.before.before.before.before.before.before.before.before.before.before.before.before.before.before.before.before.before) a.has_col a.col_mv.now (target c.before.before.before.before.before.before.before.before.before.before.before.before.before.before.before.before.before) (accepted c.before.before.before.before.before) in
-    (subst (λ (c : TraceHeader). picture_short c.pic_w c.pic_h (target c.before.before.before.before.before.before.before.before.before.before.before.before.before.before.before.before.before) ≡ false) (sym c.read_header-h.ensures) g.1, g.0)
+    (subst (λ (h : TraceHeader). picture_short h.pic_w h.pic_h (target c.before.before.before.before.before.before.before.before.before.before.before.before.before.before.before.before.before) ≡ false) (sym c.read_header-h.ensures) g.1, g.0)
 
 pub returns : goal.returns
 returns c =

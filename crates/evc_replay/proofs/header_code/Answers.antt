@@ -42,7 +42,7 @@ returns-then-not-is_trace c =
     let q = planes a.y1.now a.u1.now a.v1.now in
     let t = planes a.y.now a.u.now a.v.now in
     let s = a.trace.now in
-    code_10 s p q a.has_col a.col_mv.now t c.if-trace-lt-HEADER_LEN.false (ap not (sym c.is_trace.ensures) ∙ c.if-not-is_trace.true)
+    code_10 s p q a.has_col a.col_mv.now t c.if-trace-lt-HEADER_LEN.false (ap not (sym c.is_trace.ensures ∙ c.if-not-is_trace.true))
 
 pub read_header-h-requires : goal.read_header-h-requires
 read_header-h-requires c = search rules
@@ -58,7 +58,7 @@ returns-then-bad_picture c =
     let t = planes a.y.now a.u.now a.v.now in
     let s = a.trace.now in
     let l = c.if-trace-lt-HEADER_LEN.false in
-    let m = ap not (sym c.is_trace.ensures) ∙ c.if-not-is_trace.false in
+    let m = ap not (sym c.is_trace.ensures ∙ c.if-not-is_trace.false) in
     let eh = sym c.read_header-h.ensures in
     code_1 s p q a.has_col a.col_mv.now t l m _ eh (sym c.bad_picture.ensures ∙ c.if-bad_picture.true)
 
@@ -82,7 +82,7 @@ returns-then-planes_short-has_col c =
     let t = planes a.y.now a.u.now a.v.now in
     let s = a.trace.now in
     let l = c.if-trace-lt-HEADER_LEN.false in
-    let m = ap not (sym c.is_trace.ensures) ∙ c.if-not-is_trace.false in
+    let m = ap not (sym c.is_trace.ensures ∙ c.if-not-is_trace.false) in
     let eh = sym c.read_header-h.ensures in
     code_4 s p q a.has_col a.col_mv.now t l m _ eh (picture c.before.before.before.before.before.before) (sym (test c.before.before) ∙ c.if-planes_short-has_col.true)
 
@@ -94,6 +94,6 @@ returns c =
     let t = planes a.y.now a.u.now a.v.now in
     let s = a.trace.now in
     let l = c.if-trace-lt-HEADER_LEN.false in
-    let m = ap not (sym c.is_trace.ensures) ∙ c.if-not-is_trace.false in
+    let m = ap not (sym c.is_trace.ensures ∙ c.if-not-is_trace.false) in
     let eh = sym c.read_header-h.ensures in
     code_0 s p q a.has_col a.col_mv.now t l m _ eh (picture c.before.before.before.before.before.before) (sym (test c.before.before) ∙ c.if-planes_short-has_col.false)

@@ -63,31 +63,31 @@ returns-then-record-ne0 c =
     let more = c.loop-at-test.true in record {
       v_after = with_target _ _ _ n.0
           ∙ stopped (from c.before.before.before.before.before.before.before.before.before.before.before.before.before.before.before.before.before.before.before.before.before.before.before.before.before.before.before.before.before.before.before.before) a.trace.now c.loop-at.at c.loop-at.index (target c.before.before.before.before.before.before.before.before.before.before.before.before.before.before.before.before.before.before.before.before) _ c.record_at.ensures more _ c.replay_record-record.ensures.v_after _ (number c.before.before.before.before.before.before.before.before.before.before.before.before) c.if-record-ne0.true
-          ∙ c.loop-at.inv.7;
-      result_value = n.1 ∙ counted_stop (from c.before.before.before.before.before.before.before.before.before.before.before.before.before.before.before.before.before.before.before.before.before.before.before.before.before.before.before.before.before.before.before.before) a.trace.now c.loop-at.at c.loop-at.counts _ c.record_at.ensures more _ (number c.before.before.before.before.before.before.before.before.before.before.before.before) c.if-record-ne0.true ∙ c.loop-at.inv.9;
+          ∙ c.loop-at.invariant.7;
+      result_value = n.1 ∙ counted_stop (from c.before.before.before.before.before.before.before.before.before.before.before.before.before.before.before.before.before.before.before.before.before.before.before.before.before.before.before.before.before.before.before.before) a.trace.now c.loop-at.at c.loop-at.counts _ c.record_at.ensures more _ (number c.before.before.before.before.before.before.before.before.before.before.before.before) c.if-record-ne0.true ∙ c.loop-at.invariant.9;
     }
 
 pub with_lists-counts-requires : goal.with_lists-counts-requires
 with_lists-counts-requires c =
-    let i = c.loop-at.inv in
+    let i = c.loop-at.invariant in
     let m = room c.before.before.before in
     let j = i.1 in
     most_less (2 * c.loop-at.index) 18446744073709551613 c.loop-at.counts (omega arith) i.8
 
 pub loop-at-preserved : goal.loop-at-preserved
 loop-at-preserved c =
-    let i = c.loop-at.inv in
+    let i = c.loop-at.invariant in
     let a = c.args in
     let m = room c.before.before.before.before in
     let z = sym (number c.before.before.before.before.before.before.before.before.before.before.before.before.before.before) ∙ c.if-record-ne0.false in
-    let more = c.loop-at-test.taken in (
+    let more = c.loop-at-test.true in (
       m.0,
       (let j = i.1 in omega arith),
-      c.replay_record-record.kept.1.1.1.1.1.1.1.1.1.1.0 ∙ i.2,
-      c.replay_record-record.kept.1.1.1.1.1.1.1.1.1.1.1.0 ∙ i.3,
-      c.replay_record-record.kept.1.1.1.1.1.1.1.1.1.1.1.1.0 ∙ i.4,
-      c.replay_record-record.kept.1.1.1.1.1.1.1.1.1.1.1.1.1.0 ∙ i.5,
-      c.replay_record-record.kept.1.1.1.1.1.1.1.1.1.1.1.1.1.1.0 ∙ i.6,
+      c.replay_record-record.auto.y ∙ i.2,
+      c.replay_record-record.auto.u ∙ i.3,
+      c.replay_record-record.auto.v ∙ i.4,
+      c.replay_record-record.auto.pred0 ∙ i.5,
+      c.replay_record-record.auto.pred1 ∙ i.6,
       went_on (from c.before.before.before.before.before.before.before.before.before.before.before.before.before.before.before.before.before.before.before.before.before.before.before.before.before.before.before.before.before.before.before.before.before.before) a.trace.now c.loop-at.at c.loop-at.index (target c.before.before.before.before.before.before.before.before.before.before.before.before.before.before.before.before.before.before.before.before.before.before) _ c.record_at.ensures more _ c.replay_record-record.ensures.v_after z ∙ i.7,
       most_less (2 * c.loop-at.index + 2) _ _ (omega arith) (subst (AtMost (2 * c.loop-at.index + 2)) (sym c.with_lists-counts.ensures) (lists_most (2 * c.loop-at.index) c.loop-at.counts _ _ i.8)),
       counted_on (from c.before.before.before.before.before.before.before.before.before.before.before.before.before.before.before.before.before.before.before.before.before.before.before.before.before.before.before.before.before.before.before.before.before.before) a.trace.now c.loop-at.at c.loop-at.counts _ c.record_at.ensures more z _ c.replay_record-record.ensures.result_value _ c.with_lists-counts.ensures ∙ i.9,
@@ -99,19 +99,19 @@ returns c =
     let n = c.answer-2.ensures in record { v_after = with_target _ _ _ n.0 ∙ ended (from c.before.before.before.before.before.before.before.before.before.before.before.before.before.before.before) a.trace.now c.loop-at.at c.loop-at.index (target c.before.before.before) c.loop-at-test.false ∙ c.loop-at.invariant.7; result_value = n.1 ∙ counted_end (from c.before.before.before.before.before.before.before.before.before.before.before.before.before.before.before) a.trace.now c.loop-at.at c.loop-at.counts c.loop-at-test.false ∙ c.loop-at.invariant.9 }
 
 pub shape_of-y-then-record-ne0 : goal.shape_of-y-then-record-ne0
-shape_of-y-then-record-ne0 c = c.replay_record-record.kept.1.1.1.1.1.1.1.1.1.1.0 ∙ c.loop-at.inv.2
+shape_of-y-then-record-ne0 c = c.replay_record-record.auto.y ∙ c.loop-at.invariant.2
 
 pub shape_of-u-then-record-ne0 : goal.shape_of-u-then-record-ne0
-shape_of-u-then-record-ne0 c = c.replay_record-record.kept.1.1.1.1.1.1.1.1.1.1.1.0 ∙ c.loop-at.inv.3
+shape_of-u-then-record-ne0 c = c.replay_record-record.auto.u ∙ c.loop-at.invariant.3
 
 pub shape_of-v-then-record-ne0 : goal.shape_of-v-then-record-ne0
-shape_of-v-then-record-ne0 c = c.replay_record-record.kept.1.1.1.1.1.1.1.1.1.1.1.1.0 ∙ c.loop-at.inv.4
+shape_of-v-then-record-ne0 c = c.replay_record-record.auto.v ∙ c.loop-at.invariant.4
 
 pub overflow_add-at : goal.overflow_add-at
 overflow_add-at c = let m = room c.before.before.before.before in omega arith
 
 pub overflow_add-index : goal.overflow_add-index
-overflow_add-index c = let m = room c.before.before.before.before in let j = c.loop-at.inv.1 in omega arith
+overflow_add-index c = let m = room c.before.before.before.before in let j = c.loop-at.invariant.1 in omega arith
 
 pub loop-at-smaller : goal.loop-at-smaller
 loop-at-smaller c = let m = room c.before.before.before.before in omega arith
