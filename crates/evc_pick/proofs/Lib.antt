@@ -1,3 +1,4 @@
 pub mod Tail
+pub mod Again
 pub mod Ends
 pub mod Walk

@@ -2,6 +2,7 @@
 #![tactic(auto)]
 
 ghost use Rattle.std.specs.Prelude.{◌≡◌, cond, ◌+◌, ◌*◌, ◌≤◌, length, drop};
+ghost use Rattle.std.specs.Borrow.{sem};
 ghost use Rattle.evc_int.specs.Lists.{with_block};
 ghost use Rattle.evc_interp.specs.Inner.{Readable, sample_from};
 ghost use Rattle.evc_pick.specs.Inner.{both_end, once_ended};
@@ -10,7 +11,6 @@ use evc_interp::Position;
 use evc_plane::PlaneType;
 
 // One picker handing back the part of either lent block, from the plane's offset on. Once the part has ended, both blocks have.
-// `search` finds the lifetime, which has no name in a clause.
 fn pick<'a>(
     pred0: &'a mut [u16],
     pred1: &'a mut [u16],
@@ -19,7 +19,7 @@ fn pick<'a>(
 ) -> &'a mut [u16]
     requires { offset ≤ length (cond second pred1 pred0).now }
     ensures result_value { result.now ≡ drop offset (cond second pred1.entry pred0.entry).now }
-    ensures* once_ended { once_ended 𝓛 (Prim.search) result (both_end 𝓛 pred0.entry pred1.entry second offset) }
+    ensures* once_ended { sem 𝓛 (once_ended result (both_end pred0.entry pred1.entry second offset)) }
 {
     let pred = if second { pred1 } else { pred0 };
     &mut pred[offset..]
