@@ -133,7 +133,7 @@ pub extern "C" fn evc_get_motion(
     cand: &mut EvcCandidates,
 ) -> u32
     ensures code { result ≡ (get_motion block lidx avail map_mv.now has_col col_mv.now cand.old).code }
-    ensures record { cand.new ≡ (get_motion block lidx avail map_mv.now has_col col_mv.now cand.old).cand }
+    ensures record_after { cand.new ≡ (get_motion block lidx avail map_mv.now has_col col_mv.now cand.old).cand }
 {
     let found = found_motion(block, lidx, avail, map_mv, has_col, col_mv);
     if found.code != 0 {
