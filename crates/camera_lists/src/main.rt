@@ -5,7 +5,8 @@ ghost use Rattle.std.specs.Prelude.{◌*◌, ◌≤◌, length};
 
 use evc_camera::EvcCamera;
 use evc_lists::MAX_RECORDS;
-use libc::STDOUT_FILENO;
+use std::io;
+use std::io::{BufWriter, Read, Write};
 
 const MAX_WORDS: usize = 100;
 
@@ -27,19 +28,21 @@ const MAP_LEN: usize = 3;
 type Record = [u8; RECORD_LEN];
 
 // Of a NaN, which no mean is, the bits cannot be read.
-fn print_bits(v: f64) {
-    io::write_all(STDOUT_FILENO, b" ");
+fn print_bits(out: &mut impl Write, v: f64) -> io::Result<()> {
+    out.write_all(b" ")?;
     if v == v {
-        io::print_hex(STDOUT_FILENO, f64::to_bits(v), 16);
+        let bits = f64::to_bits(v);
+        write!(out, "{bits:016x}")?;
     }
+    Ok(())
 }
 
-fn print_answer(answer: EvcCamera) {
-    evc_lists::print(answer.code as u64);
-    evc_lists::print_next(answer.kind as u64);
-    print_bits(answer.x);
-    print_bits(answer.y);
-    evc_lists::end_line();
+fn print_answer(out: &mut impl Write, answer: EvcCamera) -> io::Result<()> {
+    evc_lists::print(out, answer.code as u64)?;
+    evc_lists::print_next(out, answer.kind as u64)?;
+    print_bits(out, answer.x)?;
+    print_bits(out, answer.y)?;
+    evc_lists::end_line(out)
 }
 
 fn fill_map(map: &mut [i16], bytes: &[u8])
@@ -50,7 +53,12 @@ fn fill_map(map: &mut [i16], bytes: &[u8])
     }
 }
 
-fn run_call(r: &Record, states: &[u8; MAX_WORDS], bytes: &[u8; MAX_MAP_BYTES]) {
+fn run_call(
+    out: &mut impl Write,
+    r: &Record,
+    states: &[u8; MAX_WORDS],
+    bytes: &[u8; MAX_MAP_BYTES],
+) -> io::Result<()> {
     let mut words = [0u32; MAX_WORDS];
     let mut map = [0i16; MAX_MAP_LEN];
     evc_lists::fill_words(&mut words, states);
@@ -59,39 +67,45 @@ fn run_call(r: &Record, states: &[u8; MAX_WORDS], bytes: &[u8; MAX_MAP_BYTES]) {
     let m = evc_lists::lent(r, MAP_LEN, MAX_MAP_LEN);
     let w = evc_lists::number32(r, PIC_W);
     let h = evc_lists::number32(r, PIC_H);
-    print_answer(evc_camera::evc_camera_motion(w, h, &map[..m], &words[..n]));
+    print_answer(
+        out,
+        evc_camera::evc_camera_motion(w, h, &map[..m], &words[..n]),
+    )
 }
 
-fn read_first(bytes: &mut [u8], n: usize) -> bool
+fn read_first(input: &mut impl Read, bytes: &mut [u8], n: usize) -> io::Result<bool>
     requires { n ≤ length bytes.old }
 {
-    evc_lists::read(&mut bytes[..n])
+    evc_lists::read(input, &mut bytes[..n])
 }
 
 // The next call; false at the end of the input.
-fn next() -> bool {
+fn next(input: &mut impl Read, out: &mut impl Write) -> io::Result<bool> {
     let mut r = [0u8; RECORD_LEN];
     let mut states = [0u8; MAX_WORDS];
     let mut bytes = [0u8; MAX_MAP_BYTES];
-    if !evc_lists::read(&mut r) {
-        return false;
+    if !evc_lists::read(input, &mut r)? {
+        return Ok(false);
     }
     let n = evc_lists::lent(&r, WORDS_LEN, MAX_WORDS);
     let m = evc_lists::lent(&r, MAP_LEN, MAX_MAP_LEN);
-    if !read_first(&mut states, n) {
-        return false;
+    if !read_first(input, &mut states, n)? {
+        return Ok(false);
     }
-    if !read_first(&mut bytes, 2 * m) {
-        return false;
+    if !read_first(input, &mut bytes, 2 * m)? {
+        return Ok(false);
     }
-    run_call(&r, &states, &bytes);
-    true
+    run_call(out, &r, &states, &bytes)?;
+    Ok(true)
 }
 
-fn main() {
-    for i in 0..MAX_RECORDS {
-        if !next() {
-            return;
+fn main(rt: HostRuntime) -> io::Result<()> {
+    let mut input = rt.reader();
+    let mut out = BufWriter::new(rt.alloc(), io::writer(&rt))?;
+    for _ in 0..MAX_RECORDS {
+        if !next(&mut input, &mut out)? {
+            break;
         }
     }
+    out.flush()
 }

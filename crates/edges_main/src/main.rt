@@ -10,7 +10,7 @@ use evc_direct::Pocs;
 use evc_mc::{EvcList, PRED_LEN};
 use evc_motion::EvcCandidates;
 use evc_plane::PlaneType;
-use libc::STDOUT_FILENO;
+use std::io;
 
 // What a picture of 8128 by 4 needs, and one of 128 by 128 with it.
 const LUMA_LEN: usize = 8288 * 164;
@@ -100,40 +100,51 @@ fn block(b: EvcBlock, poc: u32, luma: &[u16], chroma: &[u16]) -> u32 {
 
 // ---- what is printed
 
-fn print(name: &[u8], n: u32) {
-    io::write_all(STDOUT_FILENO, name);
-    io::print_decimal(STDOUT_FILENO, n as u64);
+fn print(rt: &impl Print, name: &str, n: u32) -> io::Result<()> {
+    print!(rt; "{name}{n}")
 }
 
-fn end_line() {
-    io::write_all(STDOUT_FILENO, b"\n");
+fn end_line(rt: &impl Print) -> io::Result<()> {
+    println!(rt)
 }
 
-fn print_vectors(b: EvcBlock) {
-    print(b" flags ", flags(b));
-    print(b", candidates ", candidates(b));
-    print(b", direct vectors ", direct(b, 0));
-    print(b", clipping ", clipping(b));
+fn print_vectors(rt: &impl Print, b: EvcBlock) -> io::Result<()> {
+    print(rt, " flags ", flags(b))?;
+    print(rt, ", candidates ", candidates(b))?;
+    print(rt, ", direct vectors ", direct(b, 0))?;
+    print(rt, ", clipping ", clipping(b))
 }
 
-fn print_padding(b: EvcBlock, luma: &mut [u16], chroma: &mut [u16]) {
+fn print_padding(
+    rt: &impl Print,
+    b: EvcBlock,
+    luma: &mut [u16],
+    chroma: &mut [u16],
+) -> io::Result<()> {
     print(
-        b" padding luma ",
+        rt,
+        " padding luma ",
         evc_pad::pad(PlaneType::Y, b.pic_w, b.pic_h, luma),
-    );
+    )?;
     print(
-        b", padding chroma ",
+        rt,
+        ", padding chroma ",
         evc_pad::pad(PlaneType::UV, b.pic_w, b.pic_h, chroma),
-    );
+    )
 }
 
-fn print_prediction(b: EvcBlock, luma: &[u16], chroma: &[u16]) {
-    print(b", luma plane ", one_plane(PlaneType::Y, b, b.w, b.h, luma));
+fn print_prediction(rt: &impl Print, b: EvcBlock, luma: &[u16], chroma: &[u16]) -> io::Result<()> {
     print(
-        b", chroma plane ",
+        rt,
+        ", luma plane ",
+        one_plane(PlaneType::Y, b, b.w, b.h, luma),
+    )?;
+    print(
+        rt,
+        ", chroma plane ",
         one_plane(PlaneType::UV, b, b.w / 2, b.h / 2, chroma),
-    );
-    print(b", block ", block(b, 0, luma, chroma));
+    )?;
+    print(rt, ", block ", block(b, 0, luma, chroma))
 }
 
 // ---- the lines
@@ -149,43 +160,41 @@ fn square(pic_w: u32, pic_h: u32, side: u32) -> EvcBlock {
     }
 }
 
-fn print_stride(name: &[u8], t: PlaneType, pic_w: u32)
+fn print_stride(rt: &impl Print, name: &str, t: PlaneType, pic_w: u32) -> io::Result<()>
     requires { bad_picture pic_w 4 ≡ false }
 {
     let c = evc_plane::plane_config(t, pic_w, 4);
-    io::write_all(STDOUT_FILENO, name);
-    io::print_decimal(STDOUT_FILENO, c.width as u64);
-    io::write_all(STDOUT_FILENO, b": stride ");
-    io::print_decimal(STDOUT_FILENO, c.stride as u64);
-    end_line();
+    let width = c.width;
+    let stride = c.stride;
+    println!(rt; "{name}{width}: stride {stride}")
 }
 
-fn width_line(pic_w: u32, luma: &mut [u16], chroma: &mut [u16]) {
+fn width_line(rt: &impl Print, pic_w: u32, luma: &mut [u16], chroma: &mut [u16]) -> io::Result<()> {
     let b = square(pic_w, 4, 4);
-    print(b"W ", pic_w);
-    io::write_all(STDOUT_FILENO, b":");
-    print_vectors(b);
-    io::write_all(STDOUT_FILENO, b",");
-    print_padding(b, luma, chroma);
-    print_prediction(b, luma, chroma);
-    end_line();
+    print(rt, "W ", pic_w)?;
+    print!(rt; ":")?;
+    print_vectors(rt, b)?;
+    print!(rt; ",")?;
+    print_padding(rt, b, luma, chroma)?;
+    print_prediction(rt, b, luma, chroma)?;
+    end_line(rt)
 }
 
-fn side_line(side: u32, luma: &[u16], chroma: &[u16]) {
+fn side_line(rt: &impl Print, side: u32, luma: &[u16], chroma: &[u16]) -> io::Result<()> {
     let b = square(128, 128, side);
-    print(b"side ", side);
-    io::write_all(STDOUT_FILENO, b":");
-    print_vectors(b);
-    print_prediction(b, luma, chroma);
-    end_line();
+    print(rt, "side ", side)?;
+    print!(rt; ":")?;
+    print_vectors(rt, b)?;
+    print_prediction(rt, b, luma, chroma)?;
+    end_line(rt)
 }
 
-fn count_line(poc: u32, luma: &[u16], chroma: &[u16]) {
+fn count_line(rt: &impl Print, poc: u32, luma: &[u16], chroma: &[u16]) -> io::Result<()> {
     let b = square(128, 128, 8);
-    print(b"count ", poc);
-    print(b": direct vectors ", direct(b, poc));
-    print(b", block ", block(b, poc, luma, chroma));
-    end_line();
+    print(rt, "count ", poc)?;
+    print(rt, ": direct vectors ", direct(b, poc))?;
+    print(rt, ", block ", block(b, poc, luma, chroma))?;
+    end_line(rt)
 }
 
 fn fill(plane: &mut [u16], sample: u16) {
@@ -195,55 +204,60 @@ fn fill(plane: &mut [u16], sample: u16) {
 }
 
 // Every sample of the planes is this one.
-fn sample_line(sample: u16, luma: &mut [u16], chroma: &mut [u16]) {
+fn sample_line(
+    rt: &impl Print,
+    sample: u16,
+    luma: &mut [u16],
+    chroma: &mut [u16],
+) -> io::Result<()> {
     let b = square(128, 128, 8);
     fill(luma, sample);
     fill(chroma, sample);
-    print(b"sample ", sample as u32);
-    io::write_all(STDOUT_FILENO, b":");
-    print_padding(b, luma, chroma);
-    print_prediction(b, luma, chroma);
-    end_line();
+    print(rt, "sample ", sample as u32)?;
+    print!(rt; ":")?;
+    print_padding(rt, b, luma, chroma)?;
+    print_prediction(rt, b, luma, chroma)?;
+    end_line(rt)
 }
 
-fn width_lines(luma: &mut [u16], chroma: &mut [u16]) {
-    width_line(8128, luma, chroma);
-    width_line(8132, luma, chroma);
+fn width_lines(rt: &impl Print, luma: &mut [u16], chroma: &mut [u16]) -> io::Result<()> {
+    width_line(rt, 8128, luma, chroma)?;
+    width_line(rt, 8132, luma, chroma)
 }
 
-fn side_lines(luma: &[u16], chroma: &[u16]) {
-    side_line(64, luma, chroma);
-    side_line(12, luma, chroma);
-    side_line(128, luma, chroma);
+fn side_lines(rt: &impl Print, luma: &[u16], chroma: &[u16]) -> io::Result<()> {
+    side_line(rt, 64, luma, chroma)?;
+    side_line(rt, 12, luma, chroma)?;
+    side_line(rt, 128, luma, chroma)
 }
 
-fn count_lines(luma: &[u16], chroma: &[u16]) {
-    count_line(32767, luma, chroma);
-    count_line(32768, luma, chroma);
+fn count_lines(rt: &impl Print, luma: &[u16], chroma: &[u16]) -> io::Result<()> {
+    count_line(rt, 32767, luma, chroma)?;
+    count_line(rt, 32768, luma, chroma)
 }
 
-fn sample_lines(luma: &mut [u16], chroma: &mut [u16]) {
-    sample_line(1023, luma, chroma);
-    sample_line(1024, luma, chroma);
+fn sample_lines(rt: &impl Print, luma: &mut [u16], chroma: &mut [u16]) -> io::Result<()> {
+    sample_line(rt, 1023, luma, chroma)?;
+    sample_line(rt, 1024, luma, chroma)
 }
 
-fn lines(luma: &mut [u16], chroma: &mut [u16]) {
-    width_lines(luma, chroma);
-    side_lines(luma, chroma);
-    count_lines(luma, chroma);
-    sample_lines(luma, chroma);
+fn lines(rt: &impl Print, luma: &mut [u16], chroma: &mut [u16]) -> io::Result<()> {
+    width_lines(rt, luma, chroma)?;
+    side_lines(rt, luma, chroma)?;
+    count_lines(rt, luma, chroma)?;
+    sample_lines(rt, luma, chroma)
 }
 
-fn strides() {
-    print_stride(b"luma width ", PlaneType::Y, 4);
-    print_stride(b"luma width ", PlaneType::Y, 8128);
-    print_stride(b"chroma width ", PlaneType::UV, 4);
-    print_stride(b"chroma width ", PlaneType::UV, 8128);
+fn strides(rt: &impl Print) -> io::Result<()> {
+    print_stride(rt, "luma width ", PlaneType::Y, 4)?;
+    print_stride(rt, "luma width ", PlaneType::Y, 8128)?;
+    print_stride(rt, "chroma width ", PlaneType::UV, 4)?;
+    print_stride(rt, "chroma width ", PlaneType::UV, 8128)
 }
 
-fn main() {
-    strides();
+fn main(rt: HostRuntime) -> io::Result<()> {
+    strides(&rt)?;
     let mut luma = [0u16; LUMA_LEN];
     let mut chroma = [0u16; CHROMA_LEN];
-    lines(&mut luma, &mut chroma);
+    lines(&rt, &mut luma, &mut chroma)
 }

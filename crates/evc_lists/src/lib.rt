@@ -2,21 +2,34 @@
 //! printed. rust/README.md has the records.
 #![tactic(auto)]
 
-ghost use Rattle.std.specs.Prelude.{◌+◌, ◌*◌, ◌<◌, ◌≤◌, length};
+ghost use Rattle.std.specs.Prelude.{◌+◌, ◌*◌, ◌<◌, ◌≤◌, [], ◌∷◌, length, decimal, IfOk, OnOk, IsTrue};
+ghost use Rattle.std.specs.Fmt.{signed_decimal};
+ghost use Rattle.std.specs.Io.KnownBytes.{Appends, Consumes};
 
 use evc_def::{EvcBlock, EvcMv};
 use evc_plane::PlaneType;
-use libc::{STDIN_FILENO, STDOUT_FILENO};
+use std::io;
+use std::io::{ErrorKind, Read, Write};
 
 // A proved loop has to end, and nothing says that the input does: more records than any list has.
 pub const MAX_RECORDS: usize = 65536;
 
 // ---- a record: numbers of two bytes
 
-// The next bytes of standard input; false where it has no more.
-pub fn read(bytes: &mut [u8]) -> bool {
-    let n = bytes.len();
-    io::read_full(STDIN_FILENO, bytes) == n
+// The next bytes of the input; false where it has no more.
+pub fn read<R: Read>(input: &mut R, bytes: &mut [u8]) -> io::Result<bool>
+    ensures { IfOk result (λ more. IsTrue more → Consumes (R.remaining input.old) (R.remaining input.new) bytes.new) }
+{
+    match input.read_exact(bytes) {
+        Ok(()) => Ok(true),
+        Err(e) => {
+            if e.kind() == ErrorKind::UnexpectedEof {
+                Ok(false)
+            } else {
+                Err(e)
+            }
+        }
+    }
 }
 
 pub fn number(r: &[u8], k: usize) -> u16
@@ -228,29 +241,29 @@ pub fn plane<'a>(planes: &'a [u16], r: &[u8], k: usize) -> &'a [u16]
 
 // ---- what is printed
 
-pub fn print(n: u64) {
-    io::print_decimal(STDOUT_FILENO, n);
+pub fn print<W: Write>(out: &mut W, n: u64) -> io::Result<()>
+    ensures { OnOk result (Appends (W.contents out.old) (W.contents out.new) (decimal n)) }
+{
+    write!(out, "{n}")
 }
 
 // A number behind another.
-pub fn print_next(n: u64) {
-    io::write_all(STDOUT_FILENO, b" ");
-    print(n);
+pub fn print_next<W: Write>(out: &mut W, n: u64) -> io::Result<()>
+    ensures { OnOk result (Appends (W.contents out.old) (W.contents out.new) (32 ∷ decimal n)) }
+{
+    write!(out, " {n}")
 }
 
-pub fn print_next_signed(n: i16) {
-    io::write_all(STDOUT_FILENO, b" ");
-    let bits = evc_bytes::bits16(n) as u64;
-    if n < 0 {
-        io::write_all(STDOUT_FILENO, b"-");
-        print(65536 - bits);
-    } else {
-        print(bits);
-    }
+pub fn print_next_signed<W: Write>(out: &mut W, n: i16) -> io::Result<()>
+    ensures { OnOk result (Appends (W.contents out.old) (W.contents out.new) (32 ∷ signed_decimal n)) }
+{
+    write!(out, " {n}")
 }
 
-pub fn end_line() {
-    io::write_all(STDOUT_FILENO, b"\n");
+pub fn end_line<W: Write>(out: &mut W) -> io::Result<()>
+    ensures { OnOk result (Appends (W.contents out.old) (W.contents out.new) (10 ∷ [])) }
+{
+    out.write_all(b"\n")
 }
 
 pub fn wide(sample: u16) -> u64
@@ -268,23 +281,24 @@ pub fn hash(samples: &[u16]) -> u64 {
     z
 }
 
-fn print_samples(samples: &[u16]) {
+fn print_samples(out: &mut impl Write, samples: &[u16]) -> io::Result<()> {
     for i in 0..samples.len() {
         if 0 < i {
-            io::write_all(STDOUT_FILENO, b" ");
+            out.write_all(b" ")?;
         }
-        print(wide(samples[i]));
+        print(out, wide(samples[i]))?;
     }
+    Ok(())
 }
 
 // A row is printed whole, or as a number.
-fn print_row(row: &[u16], whole: bool) {
+fn print_row(out: &mut impl Write, row: &[u16], whole: bool) -> io::Result<()> {
     if whole {
-        print_samples(row);
+        print_samples(out, row)?;
     } else {
-        print(hash(row));
+        print(out, hash(row))?;
     }
-    end_line();
+    end_line(out)
 }
 
 // Where the row from `at` on ends: the last one may be shorter.
@@ -295,13 +309,19 @@ fn row_end(at: usize, stride: usize, len: usize) -> usize
     if len - at < stride { len } else { at + stride }
 }
 
-pub fn print_rows(samples: &[u16], stride: usize, whole: bool)
+pub fn print_rows(
+    out: &mut impl Write,
+    samples: &[u16],
+    stride: usize,
+    whole: bool,
+) -> io::Result<()>
     requires { 0 < stride }
 {
     let mut at = 0;
     while at < samples.len() {
         let end = row_end(at, stride, samples.len());
-        print_row(&samples[at..end], whole);
+        print_row(out, &samples[at..end], whole)?;
         at = end;
     }
+    Ok(())
 }

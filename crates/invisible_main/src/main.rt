@@ -7,7 +7,7 @@
 use evc_def::{EvcBlock, EvcMv};
 use evc_mc::{EvcList, PRED_LEN};
 use evc_plane::PlaneType;
-use libc::STDOUT_FILENO;
+use std::io;
 
 // What a picture of 64 by 8 needs, and one of 8 by 64.
 const WIDE_STRIDE: usize = 224;
@@ -77,23 +77,30 @@ fn plane(b: EvcBlock, mv: EvcMv, at: usize, luma: &[u16]) -> u16 {
 
 // ---- what is printed
 
-fn print(name: &[u8], n: u16) {
-    io::write_all(STDOUT_FILENO, name);
-    io::print_decimal(STDOUT_FILENO, n as u64);
+fn print(rt: &impl Print, name: &str, n: u16) -> io::Result<()> {
+    print!(rt; "{name}{n}")
 }
 
-fn line(name: &[u8], p: Parts, mv: EvcMv, luma: &[u16], chroma: &[u16]) {
-    io::write_all(STDOUT_FILENO, name);
-    print(b": block ", block(p.whole, mv, p.whole_at, luma, chroma));
+fn line(
+    rt: &impl Print,
+    name: &str,
+    p: Parts,
+    mv: EvcMv,
+    luma: &[u16],
+    chroma: &[u16],
+) -> io::Result<()> {
+    print!(rt; "{name}")?;
+    print(rt, ": block ", block(p.whole, mv, p.whole_at, luma, chroma))?;
     print(
-        b", quarter ",
+        rt,
+        ", quarter ",
         block(p.quarter, mv, p.quarter_at, luma, chroma),
-    );
-    print(b", exact place ", plane(p.whole, mv, p.whole_at, luma));
+    )?;
+    print(rt, ", exact place ", plane(p.whole, mv, p.whole_at, luma))?;
     let clipped = evc_clip::mv_clip(p.whole, mv);
-    print(b", moved ", clipped.moved.x as u16);
-    print(b" ", clipped.moved.y as u16);
-    io::write_all(STDOUT_FILENO, b"\n");
+    print(rt, ", moved ", clipped.moved.x as u16)?;
+    print(rt, " ", clipped.moved.y as u16)?;
+    println!(rt)
 }
 
 // ---- the four sides
@@ -149,74 +156,74 @@ fn down(mvy: i16) -> EvcMv {
 }
 
 // The last column: 63 of the block, 31 of its upper right quarter.
-fn left(luma: &[u16], chroma: &[u16]) {
+fn left(rt: &impl Print, luma: &[u16], chroma: &[u16]) -> io::Result<()> {
     let p = Parts {
         whole: part(64, 8, 0, 0, 64, 8),
         whole_at: 63,
         quarter: part(64, 8, 32, 0, 32, 4),
         quarter_at: 31,
     };
-    line(b"left, mvx -256", p, across(-256), luma, chroma);
-    line(b"left, mvx -257", p, across(-257), luma, chroma);
-    line(b"left, mvx -258", p, across(-258), luma, chroma);
-    line(b"left, mvx -259", p, across(-259), luma, chroma);
-    line(b"left, mvx -260", p, across(-260), luma, chroma);
+    line(rt, "left, mvx -256", p, across(-256), luma, chroma)?;
+    line(rt, "left, mvx -257", p, across(-257), luma, chroma)?;
+    line(rt, "left, mvx -258", p, across(-258), luma, chroma)?;
+    line(rt, "left, mvx -259", p, across(-259), luma, chroma)?;
+    line(rt, "left, mvx -260", p, across(-260), luma, chroma)
 }
 
 // The first column, of the block and of its upper left quarter.
-fn right(luma: &[u16], chroma: &[u16]) {
+fn right(rt: &impl Print, luma: &[u16], chroma: &[u16]) -> io::Result<()> {
     let p = Parts {
         whole: part(64, 8, 0, 0, 64, 8),
         whole_at: 0,
         quarter: part(64, 8, 0, 0, 32, 4),
         quarter_at: 0,
     };
-    line(b"right, mvx 256", p, across(256), luma, chroma);
-    line(b"right, mvx 257", p, across(257), luma, chroma);
-    line(b"right, mvx 258", p, across(258), luma, chroma);
-    line(b"right, mvx 259", p, across(259), luma, chroma);
-    line(b"right, mvx 260", p, across(260), luma, chroma);
+    line(rt, "right, mvx 256", p, across(256), luma, chroma)?;
+    line(rt, "right, mvx 257", p, across(257), luma, chroma)?;
+    line(rt, "right, mvx 258", p, across(258), luma, chroma)?;
+    line(rt, "right, mvx 259", p, across(259), luma, chroma)?;
+    line(rt, "right, mvx 260", p, across(260), luma, chroma)
 }
 
 // The last row: 63 of the block, 31 of its lower left quarter.
-fn above(luma: &[u16], chroma: &[u16]) {
+fn above(rt: &impl Print, luma: &[u16], chroma: &[u16]) -> io::Result<()> {
     let p = Parts {
         whole: part(8, 64, 0, 0, 8, 64),
         whole_at: 63 * 8,
         quarter: part(8, 64, 0, 32, 4, 32),
         quarter_at: 31 * 4,
     };
-    line(b"above, mvy -256", p, down(-256), luma, chroma);
-    line(b"above, mvy -257", p, down(-257), luma, chroma);
-    line(b"above, mvy -258", p, down(-258), luma, chroma);
-    line(b"above, mvy -259", p, down(-259), luma, chroma);
-    line(b"above, mvy -260", p, down(-260), luma, chroma);
+    line(rt, "above, mvy -256", p, down(-256), luma, chroma)?;
+    line(rt, "above, mvy -257", p, down(-257), luma, chroma)?;
+    line(rt, "above, mvy -258", p, down(-258), luma, chroma)?;
+    line(rt, "above, mvy -259", p, down(-259), luma, chroma)?;
+    line(rt, "above, mvy -260", p, down(-260), luma, chroma)
 }
 
 // The first row, of the block and of its upper left quarter.
-fn below(luma: &[u16], chroma: &[u16]) {
+fn below(rt: &impl Print, luma: &[u16], chroma: &[u16]) -> io::Result<()> {
     let p = Parts {
         whole: part(8, 64, 0, 0, 8, 64),
         whole_at: 0,
         quarter: part(8, 64, 0, 0, 4, 32),
         quarter_at: 0,
     };
-    line(b"below, mvy 256", p, down(256), luma, chroma);
-    line(b"below, mvy 257", p, down(257), luma, chroma);
-    line(b"below, mvy 258", p, down(258), luma, chroma);
-    line(b"below, mvy 259", p, down(259), luma, chroma);
-    line(b"below, mvy 260", p, down(260), luma, chroma);
+    line(rt, "below, mvy 256", p, down(256), luma, chroma)?;
+    line(rt, "below, mvy 257", p, down(257), luma, chroma)?;
+    line(rt, "below, mvy 258", p, down(258), luma, chroma)?;
+    line(rt, "below, mvy 259", p, down(259), luma, chroma)?;
+    line(rt, "below, mvy 260", p, down(260), luma, chroma)
 }
 
-fn main() {
+fn main(rt: HostRuntime) -> io::Result<()> {
     let mut luma = [0u16; LUMA_LEN];
     let chroma = [0u16; CHROMA_LEN]; // 0 in the border too, as padding leaves it
     hold_column(&mut luma, ORIGIN + 1);
-    left(&luma, &chroma);
+    left(&rt, &luma, &chroma)?;
     hold_column(&mut luma, ORIGIN + 62);
-    right(&luma, &chroma);
+    right(&rt, &luma, &chroma)?;
     hold_row(&mut luma, ORIGIN + 1);
-    above(&luma, &chroma);
+    above(&rt, &luma, &chroma)?;
     hold_row(&mut luma, ORIGIN + 62);
-    below(&luma, &chroma);
+    below(&rt, &luma, &chroma)
 }

@@ -7,6 +7,8 @@ use evc_clip::EvcMoved;
 use evc_def::EvcBlock;
 use evc_lists::{MAX_RECORDS, PICTURES_LEN};
 use evc_mc::{EvcList, EvcPredicted};
+use std::io;
+use std::io::{BufWriter, Read, Write};
 
 const MAX_BLOCK_LEN: usize = 8192;
 
@@ -93,69 +95,90 @@ fn predict(
     )
 }
 
-fn print_moved(m: EvcMoved) {
-    evc_lists::print_next(m.x as u64);
-    evc_lists::print_next(m.y as u64);
+fn print_moved(out: &mut impl Write, m: EvcMoved) -> io::Result<()> {
+    evc_lists::print_next(out, m.x as u64)?;
+    evc_lists::print_next(out, m.y as u64)
 }
 
-fn print_answer(answer: EvcPredicted, pred0: &[u16], pred1: &[u16]) {
-    evc_lists::print(answer.code as u64);
-    print_moved(answer.moved0);
-    print_moved(answer.moved1);
-    evc_lists::print_next(evc_lists::hash(pred0));
-    evc_lists::print_next(evc_lists::hash(pred1));
-    evc_lists::end_line();
+fn print_answer(
+    out: &mut impl Write,
+    answer: EvcPredicted,
+    pred0: &[u16],
+    pred1: &[u16],
+) -> io::Result<()> {
+    evc_lists::print(out, answer.code as u64)?;
+    print_moved(out, answer.moved0)?;
+    print_moved(out, answer.moved1)?;
+    evc_lists::print_next(out, evc_lists::hash(pred0))?;
+    evc_lists::print_next(out, evc_lists::hash(pred1))?;
+    evc_lists::end_line(out)
 }
 
 // The blocks hold arbitrary samples first.
-fn run_blocks(pictures: &Record, planes: &[u16], r: &Record, pred0: &mut [u16], pred1: &mut [u16])
+fn run_blocks(
+    out: &mut impl Write,
+    pictures: &Record,
+    planes: &[u16],
+    r: &Record,
+    pred0: &mut [u16],
+    pred1: &mut [u16],
+) -> io::Result<()>
     requires { 393216 ≤ length planes.now }
 {
     evc_lists::scatter(pred0, evc_lists::number(r, BLOCK_SEED) as u32);
     evc_lists::scatter(pred1, evc_lists::number(r, BLOCK_SEED + 1) as u32);
     let answer = predict(pictures, planes, r, pred0, pred1);
-    print_answer(answer, pred0, pred1);
+    print_answer(out, answer, pred0, pred1)
 }
 
-fn run_call(pictures: &Record, planes: &[u16], r: &Record)
+fn run_call(out: &mut impl Write, pictures: &Record, planes: &[u16], r: &Record) -> io::Result<()>
     requires { 393216 ≤ length planes.now }
 {
     let mut pred0 = [0u16; MAX_BLOCK_LEN];
     let mut pred1 = [0u16; MAX_BLOCK_LEN];
     let n0 = evc_lists::lent(r, BLOCK_LEN, MAX_BLOCK_LEN);
     let n1 = evc_lists::lent(r, BLOCK_LEN + 1, MAX_BLOCK_LEN);
-    run_blocks(pictures, planes, r, &mut pred0[..n0], &mut pred1[..n1]);
+    run_blocks(out, pictures, planes, r, &mut pred0[..n0], &mut pred1[..n1])
 }
 
 // The calls that follow the pictures; at the end of the input there are no more.
-fn run_calls(pictures: &Record, planes: &[u16])
+fn run_calls(
+    input: &mut impl Read,
+    out: &mut impl Write,
+    pictures: &Record,
+    planes: &[u16],
+) -> io::Result<()>
     requires { 393216 ≤ length planes.now }
 {
-    for i in 0..evc_lists::number(pictures, CALLS) {
+    for _ in 0..evc_lists::number(pictures, CALLS) {
         let mut r = [0u8; RECORD_LEN];
-        if !evc_lists::read(&mut r) {
-            return;
+        if !evc_lists::read(input, &mut r)? {
+            break;
         }
-        run_call(pictures, planes, &r);
+        run_call(out, pictures, planes, &r)?;
     }
+    Ok(())
 }
 
 // The next pictures, with their calls; false at the end of the input.
-fn next() -> bool {
+fn next(input: &mut impl Read, out: &mut impl Write) -> io::Result<bool> {
     let mut r = [0u8; RECORD_LEN];
-    if !evc_lists::read(&mut r) {
-        return false;
+    if !evc_lists::read(input, &mut r)? {
+        return Ok(false);
     }
     let mut planes = [0u16; PICTURES_LEN];
     evc_lists::make_pictures(&mut planes, &r);
-    run_calls(&r, &planes);
-    true
+    run_calls(input, out, &r, &planes)?;
+    Ok(true)
 }
 
-fn main() {
-    for i in 0..MAX_RECORDS {
-        if !next() {
-            return;
+fn main(rt: HostRuntime) -> io::Result<()> {
+    let mut input = rt.reader();
+    let mut out = BufWriter::new(rt.alloc(), io::writer(&rt))?;
+    for _ in 0..MAX_RECORDS {
+        if !next(&mut input, &mut out)? {
+            break;
         }
     }
+    out.flush()
 }

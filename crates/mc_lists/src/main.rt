@@ -3,6 +3,8 @@
 #![tactic(auto)]
 
 use evc_lists::{MAX_PLANE_LEN, MAX_RECORDS};
+use std::io;
+use std::io::{BufWriter, Read, Write};
 
 const MAX_BLOCK_LEN: usize = 8192;
 
@@ -60,40 +62,53 @@ fn predict(p: &Plane, plane: &[u16], r: &Call, pred: &mut [u16]) -> u32 {
     )
 }
 
-fn print_block(pred: &[u16], w: usize) {
+fn print_block(out: &mut impl Write, pred: &[u16], w: usize) -> io::Result<()> {
     if 0 < w {
-        evc_lists::print_rows(pred, w, true);
+        evc_lists::print_rows(out, pred, w, true)?;
     }
+    Ok(())
 }
 
 // The block holds arbitrary samples first.
-fn run_block(p: &Plane, plane: &[u16], r: &Call, pred: &mut [u16]) {
+fn run_block(
+    out: &mut impl Write,
+    p: &Plane,
+    plane: &[u16],
+    r: &Call,
+    pred: &mut [u16],
+) -> io::Result<()> {
     evc_lists::scatter(pred, evc_lists::number(r, BLOCK_SEED) as u32);
-    evc_lists::print(predict(p, plane, r, pred) as u64);
+    evc_lists::print(out, predict(p, plane, r, pred) as u64)?;
     if evc_lists::is_one(p, IS_WHOLE) {
-        evc_lists::end_line();
-        print_block(pred, evc_lists::number(r, W) as usize);
+        evc_lists::end_line(out)?;
+        print_block(out, pred, evc_lists::number(r, W) as usize)
     } else {
-        evc_lists::print_next(evc_lists::hash(pred));
-        evc_lists::end_line();
+        evc_lists::print_next(out, evc_lists::hash(pred))?;
+        evc_lists::end_line(out)
     }
 }
 
-fn run_call(p: &Plane, plane: &[u16], r: &Call) {
+fn run_call(out: &mut impl Write, p: &Plane, plane: &[u16], r: &Call) -> io::Result<()> {
     let mut pred = [0u16; MAX_BLOCK_LEN];
     let n = evc_lists::lent(r, BLOCK_LEN, MAX_BLOCK_LEN);
-    run_block(p, plane, r, &mut pred[..n]);
+    run_block(out, p, plane, r, &mut pred[..n])
 }
 
 // The calls that follow; at the end of the input there are no more.
-fn run_calls(p: &Plane, plane: &[u16]) {
-    for i in 0..evc_lists::number(p, CALLS) {
+fn run_calls(
+    input: &mut impl Read,
+    out: &mut impl Write,
+    p: &Plane,
+    plane: &[u16],
+) -> io::Result<()> {
+    for _ in 0..evc_lists::number(p, CALLS) {
         let mut r = [0u8; CALL_RECORD_LEN];
-        if !evc_lists::read(&mut r) {
-            return;
+        if !evc_lists::read(input, &mut r)? {
+            break;
         }
-        run_call(p, plane, &r);
+        run_call(out, p, plane, &r)?;
     }
+    Ok(())
 }
 
 fn fill_plane(p: &Plane, plane: &mut [u16]) {
@@ -112,27 +127,35 @@ fn fill_plane(p: &Plane, plane: &mut [u16]) {
     }
 }
 
-fn run_plane(p: &Plane, plane: &mut [u16]) {
+fn run_plane(
+    input: &mut impl Read,
+    out: &mut impl Write,
+    p: &Plane,
+    plane: &mut [u16],
+) -> io::Result<()> {
     fill_plane(p, plane);
-    run_calls(p, plane);
+    run_calls(input, out, p, plane)
 }
 
 // The next plane, with its calls; false at the end of the input.
-fn next() -> bool {
+fn next(input: &mut impl Read, out: &mut impl Write) -> io::Result<bool> {
     let mut p = [0u8; PLANE_RECORD_LEN];
-    if !evc_lists::read(&mut p) {
-        return false;
+    if !evc_lists::read(input, &mut p)? {
+        return Ok(false);
     }
     let mut plane = [0u16; MAX_PLANE_LEN];
     let n = evc_lists::lent(&p, PLANE_LEN, MAX_PLANE_LEN);
-    run_plane(&p, &mut plane[..n]);
-    true
+    run_plane(input, out, &p, &mut plane[..n])?;
+    Ok(true)
 }
 
-fn main() {
-    for i in 0..MAX_RECORDS {
-        if !next() {
-            return;
+fn main(rt: HostRuntime) -> io::Result<()> {
+    let mut input = rt.reader();
+    let mut out = BufWriter::new(rt.alloc(), io::writer(&rt))?;
+    for _ in 0..MAX_RECORDS {
+        if !next(&mut input, &mut out)? {
+            break;
         }
     }
+    out.flush()
 }

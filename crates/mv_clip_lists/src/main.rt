@@ -1,5 +1,7 @@
 #![tactic(auto)]
 
-fn main() {
-    mv_clip_text::run();
+use std::io;
+
+fn main(rt: HostRuntime) -> io::Result<()> {
+    mv_clip_text::run(&mut rt.reader(), &mut io::writer(&rt))
 }

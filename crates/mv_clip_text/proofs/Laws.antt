@@ -1,16 +1,8 @@
 -- Laws of the text: chunks of whole records add up, and a negative size or place is refused. Assumes nothing.
-use mathlib.Core.Bool.{true, false, and-false}
-use mathlib.Core.List.{List, ◌++◌, append-nil, append_assoc}
-use mathlib.Core.Logic.{◌⊎◌, ⊎_elim}
-use mathlib.Core.Path.{◌≡◌, refl, ap, ap₂, ◌∙◌}
-use borrow.Author.Tests.{eq-eqb, lt-leb}
-use Prim.Native.Nat.{ℕ, zero, suc, ◌+◌, ◌*◌, ◌/◌, ◌%◌, ◌<◌, ◌≤◌}
-use native.Mathlib.Nat.{add-zero, add-suc}
-use native.Mathlib.Omega.{arith}
-use lib.Dec.{lit<}
-use lib.IntN.{pos}
-use lib.ListN.{length, length-append, get_or-append}
-use lib.Seq.{get_or-append-add}
+use mathlib.Core.Bool.{and-false}
+use Rattle.std.proofs.Common.{true, false, List, ◌++◌, append-nil, append_assoc, ◌⊎◌, ⊎_elim, ◌≡◌, refl, ap, ap₂, ◌∙◌, eq-eqb, ℕ, zero, suc, ◌+◌, ◌*◌, ◌/◌, ◌%◌, ◌<◌, ◌≤◌, add-zero, add-suc, arith, lit<, pos, length, length-append, get_or-append-add}
+use Rattle.std.proofs.Math.ListN.{get_or-append}
+use Rattle.std.proofs.lemmas.Bool.{lt-leb}
 use Rattle.evc_def.specs.Blocks.{Allowed, is_picture_side, bad_picture}
 use Rattle.evc_def.proofs.Blocks.{allowed_block}
 use Rattle.evc_def.proofs.Codes.{refused}

@@ -1,3 +1,5 @@
 pub mod Wrote
 pub mod Laws
 pub mod Examples
+pub mod Known
+pub mod Turns

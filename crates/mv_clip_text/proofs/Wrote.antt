@@ -1,11 +1,5 @@
 -- Laws of `Wrote`: nothing written, one byte, one text behind another, and where a text ends. Assumes nothing.
-use mathlib.Core.List.{List, [], ◌∷◌, ◌++◌, append-nil, append_assoc}
-use mathlib.Core.Path.{refl, sym, ap, ◌∙◌}
-use Prim.Native.Nat.{ℕ, ◌+◌, ◌≤◌, ◌<◌}
-use native.Mathlib.Numerals.{add-one}
-use native.Mathlib.Omega.{arith}
-use lib.ListN.{length, take, set, length-append, length-set, length-take}
-use lib.Seq.{take-suc-set}
+use Rattle.std.proofs.Common.{List, [], ◌∷◌, ◌++◌, append-nil, append_assoc, refl, sym, ap, ◌∙◌, ℕ, ◌+◌, ◌≤◌, ◌<◌, add-one, arith, length, take, set, length-append, length-set, length-take, take-suc-set}
 use Rattle.mv_clip_text.specs.Inner.{Wrote}
 
 pub wrote_nothing : (a : List ℕ) (at : ℕ) → Wrote a a at at []

@@ -1,14 +1,17 @@
 #![tactic(auto)]
 
-ghost use Rattle.std.specs.Prelude.{◌≡◌, ◌∷◌, [], ◌+◌, ◌*◌, ◌/◌, ◌<◌, ◌≤◌, length};
+ghost use Rattle.std.specs.Prelude.{◌≡◌, ◌≢◌, ◌⊎◌, ℕ, ◌∷◌, [], ◌++◌, ◌+◌, ◌-◌, ◌*◌, ◌/◌, ◌^◌, ◌<◌, ◌≤◌, length, take, IfOk, OnOk, IfSome};
+ghost use Rattle.std.specs.Io.KnownBytes.{Appends, Consumes, IsAtEnd};
 ghost use Rattle.evc_int.specs.LowBits.{signed16};
 ghost use Rattle.mv_clip_text.specs.Decimal.{digit, decimal, signed_decimal};
 ghost use Rattle.mv_clip_text.specs.Records.{field, answer_at, line, text};
 ghost use Rattle.mv_clip_text.specs.Inner.{Wrote};
+ghost use Rattle.mv_clip_text.specs.Program.{refused_picture, header, ChunkAnswered};
 
 use evc_clip::{EvcClipped, EvcMoved, NOT_MOVED};
 use evc_def::{EvcBlock, EvcMv};
-use libc::{STDERR_FILENO, STDIN_FILENO, STDOUT_FILENO};
+use std::io;
+use std::io::{Read, Write};
 
 const RECORD_LEN: usize = 16;
 // The longest line: five digits for a number, a sign for each component, two spaces and the line's end.
@@ -39,7 +42,9 @@ fn component_at(records: &[u8], at: usize, k: usize) -> i16
 
 fn answer_at(records: &[u8], at: usize) -> EvcClipped
     requires { at + 16 ≤ length records.now }
-    ensures { result ≡ answer_at records.now at }
+    ensures value { result ≡ answer_at records.now at }
+    ensures negative_picture { (32768 ≤ field records.now at 2) ⊎ (32768 ≤ field records.now at 3) → result ≡ refused_picture }
+    ensures negative { (k : ℕ) → k < 6 → 32768 ≤ field records.now at k → result.code ≢ 0 }
 {
     let block = EvcBlock {
         x: field_at(records, at, 0),
@@ -143,50 +148,52 @@ fn chunk_text(records: &[u8], out: &mut [u8]) -> usize
 
 // ---- the program
 
-// Answers whether all of it was written.
-fn print(text: &[u8]) -> bool {
-    let is_written = io::write_all(STDOUT_FILENO, text);
-    if !is_written {
-        io::write_all(STDERR_FILENO, b"cannot write standard output\n");
-    }
-    is_written
-}
-
-fn print_text(records: &[u8]) -> bool
+fn print_text<W: Write>(out: &mut W, records: &[u8]) -> io::Result<()>
     requires { length records.now ≤ 49152 }
+    ensures { OnOk result (Appends (W.contents out.old) (W.contents out.new) (text records.now)) }
 {
-    let mut out = [0u8; MAX_TEXT_LEN];
-    let end = chunk_text(records, &mut out);
-    print(&out[..end])
+    let mut lines = [0u8; MAX_TEXT_LEN];
+    let end = chunk_text(records, &mut lines);
+    out.write_all(&lines[..end])
 }
 
-// The input ended where a further read gives no byte: a short count of `read_full` does not say so.
-fn report_unless_ended() {
-    let mut byte = [0u8; 1];
-    if libc::read(STDIN_FILENO, &mut byte) != 0 {
-        io::write_all(STDERR_FILENO, b"cannot read standard input\n");
+// Reads until the buffer is full or the input ends, and returns how many bytes that were.
+fn read_full<R: Read>(input: &mut R, bytes: &mut [u8]) -> io::Result<usize>
+    ensures upper_bound { IfOk result (λ n. n ≤ length bytes.new) }
+    ensures taken { IfOk result (λ n. Consumes (R.remaining input.old) (R.remaining input.new) (take n bytes.new)) }
+    ensures ended { IfOk result (λ n. n < length bytes.new → IsAtEnd (R.remaining input.new)) }
+{
+    let mut n = 0;
+    while n < bytes.len() {
+        let more = input.read(&mut bytes[n..])?;
+        if more == 0 {
+            return Ok(n);
+        }
+        n += more;
     }
+    Ok(n)
 }
 
 // One chunk; answers whether to go on.
-fn run_chunk() -> bool {
+fn run_chunk<R: Read, W: Write>(input: &mut R, out: &mut W) -> io::Result<bool>
+    ensures { IfOk result (λ more. ChunkAnswered (R.remaining input.old) (R.remaining input.new) (W.contents out.old) (W.contents out.new) more) }
+{
     let mut records = [0u8; CHUNK_LEN];
-    let n = io::read_full(STDIN_FILENO, &mut records);
-    let is_written = print_text(&records[..n]);
-    if n < CHUNK_LEN {
-        report_unless_ended();
-        return false;
-    }
-    is_written
+    let n = read_full(input, &mut records)?;
+    print_text(out, &records[..n])?;
+    Ok(n == CHUNK_LEN)
 }
 
-// A proved loop has to end, and nothing says that the input does: the chunks are counted down from a number that no run uses up.
-pub fn run() {
-    if !print(b"answer mvx mvy\n") {
-        return;
+// A proved loop has to end, and nothing says that the input does: the chunks are counted up to a number that no run reaches.
+pub fn run<R: Read, W: Write>(input: &mut R, out: &mut W) -> io::Result<()>
+    ensures { OnOk result (IfSome (R.remaining input.old) (λ s. length s < 49152 * (2 ^ 64 - 1) →
+        Appends (W.contents out.old) (W.contents out.new) (header ++ text s))) }
+{
+    out.write_all(b"answer mvx mvy\n")?;
+    for k in 0..u64::MAX {
+        if !run_chunk(input, out)? {
+            break;
+        }
     }
-    let mut chunks = u64::MAX;
-    while chunks > 0 && run_chunk() {
-        chunks -= 1;
-    }
+    Ok(())
 }

@@ -4,6 +4,8 @@
 ghost use Rattle.std.specs.Prelude.{◌<◌};
 
 use evc_lists::{MAX_PLANE_LEN, MAX_RECORDS};
+use std::io;
+use std::io::{BufWriter, Read, Write};
 
 const RECORD_LEN: usize = 22;
 
@@ -74,32 +76,36 @@ fn pad(r: &Record, plane: &mut [u16]) -> u32 {
     )
 }
 
-fn run_plane(r: &Record, plane: &mut [u16]) {
+fn run_plane(out: &mut impl Write, r: &Record, plane: &mut [u16]) -> io::Result<()> {
     fill_plane(r, plane);
-    evc_lists::print(pad(r, plane) as u64);
-    evc_lists::end_line();
+    evc_lists::print(out, pad(r, plane) as u64)?;
+    evc_lists::end_line(out)?;
     let stride = evc_lists::number(r, STRIDE) as usize;
     if 0 < stride {
-        evc_lists::print_rows(plane, stride, evc_lists::is_one(r, IS_WHOLE));
+        evc_lists::print_rows(out, plane, stride, evc_lists::is_one(r, IS_WHOLE))?;
     }
+    Ok(())
 }
 
 // The next plane; false at the end of the input.
-fn next() -> bool {
+fn next(input: &mut impl Read, out: &mut impl Write) -> io::Result<bool> {
     let mut r = [0u8; RECORD_LEN];
-    if !evc_lists::read(&mut r) {
-        return false;
+    if !evc_lists::read(input, &mut r)? {
+        return Ok(false);
     }
     let mut plane = [0u16; MAX_PLANE_LEN];
     let n = evc_lists::lent(&r, PLANE_LEN, MAX_PLANE_LEN);
-    run_plane(&r, &mut plane[..n]);
-    true
+    run_plane(out, &r, &mut plane[..n])?;
+    Ok(true)
 }
 
-fn main() {
-    for i in 0..MAX_RECORDS {
-        if !next() {
-            return;
+fn main(rt: HostRuntime) -> io::Result<()> {
+    let mut input = rt.reader();
+    let mut out = BufWriter::new(rt.alloc(), io::writer(&rt))?;
+    for _ in 0..MAX_RECORDS {
+        if !next(&mut input, &mut out)? {
+            break;
         }
     }
+    out.flush()
 }

@@ -5,6 +5,8 @@ ghost use Rattle.std.specs.Prelude.{◌<◌, ◌≤◌, length};
 
 use evc_lists::{MAX_PLANE_LEN, MAX_RECORDS, PICTURES_LEN};
 use evc_replay::EvcReplay;
+use std::io;
+use std::io::{BufWriter, Read, Write};
 
 const MAX_MAP_LEN: usize = 4096;
 
@@ -61,20 +63,27 @@ fn make_target(r: &Record, y: &mut [u16], u: &mut [u16], v: &mut [u16]) {
     evc_lists::fill(v, seed + 2, 1024);
 }
 
-fn print_answer(answer: EvcReplay, y: &[u16], u: &[u16], v: &[u16]) {
-    evc_lists::print(answer.code as u64);
-    evc_lists::print_next(answer.index);
-    evc_lists::print_next(answer.across_low);
-    evc_lists::print_next(answer.across_high);
-    evc_lists::print_next(answer.down_low);
-    evc_lists::print_next(answer.down_high);
-    evc_lists::print_next(evc_lists::hash(y));
-    evc_lists::print_next(evc_lists::hash(u));
-    evc_lists::print_next(evc_lists::hash(v));
-    evc_lists::end_line();
+fn print_answer(
+    out: &mut impl Write,
+    answer: EvcReplay,
+    y: &[u16],
+    u: &[u16],
+    v: &[u16],
+) -> io::Result<()> {
+    evc_lists::print(out, answer.code as u64)?;
+    evc_lists::print_next(out, answer.index)?;
+    evc_lists::print_next(out, answer.across_low)?;
+    evc_lists::print_next(out, answer.across_high)?;
+    evc_lists::print_next(out, answer.down_low)?;
+    evc_lists::print_next(out, answer.down_high)?;
+    evc_lists::print_next(out, evc_lists::hash(y))?;
+    evc_lists::print_next(out, evc_lists::hash(u))?;
+    evc_lists::print_next(out, evc_lists::hash(v))?;
+    evc_lists::end_line(out)
 }
 
 fn run_target(
+    out: &mut impl Write,
     r: &Record,
     planes: &[u16],
     map: &[i16],
@@ -82,17 +91,23 @@ fn run_target(
     y: &mut [u16],
     u: &mut [u16],
     v: &mut [u16],
-)
+) -> io::Result<()>
     requires { 393216 ≤ length planes.now }
 {
     make_target(r, y, u, v);
     let answer = replay(r, planes, map, trace, y, u, v);
-    print_answer(answer, y, u, v);
+    print_answer(out, answer, y, u, v)
 }
 
 // ---- what is lent
 
-fn lend_target(r: &Record, planes: &[u16], map: &[i16], trace: &[u8])
+fn lend_target(
+    out: &mut impl Write,
+    r: &Record,
+    planes: &[u16],
+    map: &[i16],
+    trace: &[u8],
+) -> io::Result<()>
     requires { 393216 ≤ length planes.now }
 {
     let mut y = [0u16; MAX_PLANE_LEN];
@@ -101,7 +116,16 @@ fn lend_target(r: &Record, planes: &[u16], map: &[i16], trace: &[u8])
     let a = evc_lists::lent(r, TARGET_LEN, MAX_PLANE_LEN);
     let b = evc_lists::lent(r, TARGET_LEN + 1, MAX_PLANE_LEN);
     let c = evc_lists::lent(r, TARGET_LEN + 2, MAX_PLANE_LEN);
-    run_target(r, planes, map, trace, &mut y[..a], &mut u[..b], &mut v[..c]);
+    run_target(
+        out,
+        r,
+        planes,
+        map,
+        trace,
+        &mut y[..a],
+        &mut u[..b],
+        &mut v[..c],
+    )
 }
 
 // An arbitrary number of this span, around 0.
@@ -131,47 +155,55 @@ fn make_map(map: &mut [i16], r: &Record)
     }
 }
 
-fn lend_map(r: &Record, planes: &[u16], trace: &[u8])
+fn lend_map(out: &mut impl Write, r: &Record, planes: &[u16], trace: &[u8]) -> io::Result<()>
     requires { 393216 ≤ length planes.now }
 {
     let mut map = [0i16; MAX_MAP_LEN];
     make_map(&mut map, r);
     let n = evc_lists::lent(r, MAP_LEN, MAX_MAP_LEN);
-    lend_target(r, planes, &map[..n], trace);
+    lend_target(out, r, planes, &map[..n], trace)
 }
 
-fn lend_planes(r: &Record, trace: &[u8]) {
+fn lend_planes(out: &mut impl Write, r: &Record, trace: &[u8]) -> io::Result<()> {
     let mut planes = [0u16; PICTURES_LEN];
     evc_lists::make_pictures(&mut planes, r);
-    lend_map(r, &planes, trace);
+    lend_map(out, r, &planes, trace)
 }
 
 // ---- the traces
 
 // The bytes of the trace; false where the input has no more.
-fn run_trace(r: &Record, trace: &mut [u8]) -> bool {
-    if !evc_lists::read(trace) {
-        return false;
+fn run_trace(
+    input: &mut impl Read,
+    out: &mut impl Write,
+    r: &Record,
+    trace: &mut [u8],
+) -> io::Result<bool> {
+    if !evc_lists::read(input, trace)? {
+        return Ok(false);
     }
-    lend_planes(r, trace);
-    true
+    lend_planes(out, r, trace)?;
+    Ok(true)
 }
 
 // The next trace; false at the end of the input.
-fn next() -> bool {
+fn next(input: &mut impl Read, out: &mut impl Write) -> io::Result<bool> {
     let mut r = [0u8; RECORD_LEN];
-    if !evc_lists::read(&mut r) {
-        return false;
+    if !evc_lists::read(input, &mut r)? {
+        return Ok(false);
     }
     let mut trace = [0u8; MAX_TRACE_LEN];
     let n = evc_lists::lent(&r, TRACE_LEN, MAX_TRACE_LEN);
-    run_trace(&r, &mut trace[..n])
+    run_trace(input, out, &r, &mut trace[..n])
 }
 
-fn main() {
-    for i in 0..MAX_RECORDS {
-        if !next() {
-            return;
+fn main(rt: HostRuntime) -> io::Result<()> {
+    let mut input = rt.reader();
+    let mut out = BufWriter::new(rt.alloc(), io::writer(&rt))?;
+    for _ in 0..MAX_RECORDS {
+        if !next(&mut input, &mut out)? {
+            break;
         }
     }
+    out.flush()
 }

@@ -5,6 +5,8 @@ ghost use Rattle.std.specs.Prelude.{◌+◌, ◌*◌, ◌<◌, ◌≤◌, length
 
 use evc_def::EvcBlock;
 use evc_lists::MAX_RECORDS;
+use std::io;
+use std::io::{BufWriter, Read, Write};
 
 const RECORD_LEN: usize = 80;
 
@@ -51,31 +53,34 @@ fn fill_words(words: &mut [u32], r: &[u8])
     fill(words, &r[FIRST_WORD..]);
 }
 
-fn run_call(r: &Record) {
+fn run_call(out: &mut impl Write, r: &Record) -> io::Result<()> {
     let mut words = [0u32; MAX_WORDS];
     fill_words(&mut words, r);
     let n = evc_lists::lent(r, WORDS_LEN, MAX_WORDS);
     let slice_num = evc_lists::number32(r, SLICE_NUM);
     let got = evc_avail::evc_get_avail_inter_slice(block_of(r), slice_num, &words[..n]);
-    evc_lists::print(got.code as u64);
-    evc_lists::print_next(got.avail as u64);
-    evc_lists::end_line();
+    evc_lists::print(out, got.code as u64)?;
+    evc_lists::print_next(out, got.avail as u64)?;
+    evc_lists::end_line(out)
 }
 
 // The next call; false at the end of the input.
-fn next() -> bool {
+fn next(input: &mut impl Read, out: &mut impl Write) -> io::Result<bool> {
     let mut r = [0u8; RECORD_LEN];
-    if !evc_lists::read(&mut r) {
-        return false;
+    if !evc_lists::read(input, &mut r)? {
+        return Ok(false);
     }
-    run_call(&r);
-    true
+    run_call(out, &r)?;
+    Ok(true)
 }
 
-fn main() {
-    for i in 0..MAX_RECORDS {
-        if !next() {
-            return;
+fn main(rt: HostRuntime) -> io::Result<()> {
+    let mut input = rt.reader();
+    let mut out = BufWriter::new(rt.alloc(), io::writer(&rt))?;
+    for _ in 0..MAX_RECORDS {
+        if !next(&mut input, &mut out)? {
+            break;
         }
     }
+    out.flush()
 }

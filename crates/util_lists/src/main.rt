@@ -7,6 +7,8 @@ use evc_def::{EvcBlock, EvcMv};
 use evc_direct::{EvcDirect, Pocs};
 use evc_lists::MAX_RECORDS;
 use evc_motion::{EvcCandidates, Motion};
+use std::io;
+use std::io::{BufWriter, Read, Write};
 
 const RECORD_LEN: usize = 32;
 
@@ -21,9 +23,9 @@ fn block_of(r: &Record) -> EvcBlock {
     evc_lists::block(r, BLOCK)
 }
 
-fn print_vector(mv: EvcMv) {
-    evc_lists::print_next_signed(mv.x);
-    evc_lists::print_next_signed(mv.y);
+fn print_vector(out: &mut impl Write, mv: EvcMv) -> io::Result<()> {
+    evc_lists::print_next_signed(out, mv.x)?;
+    evc_lists::print_next_signed(out, mv.y)
 }
 
 // ---- flags
@@ -41,13 +43,13 @@ fn fill_words(words: &mut [u32], r: &[u8])
     evc_lists::fill_words(words, &r[FIRST_STATE..]);
 }
 
-fn run_flags(r: &Record) {
+fn run_flags(out: &mut impl Write, r: &Record) -> io::Result<()> {
     let mut words = [0u32; MAX_WORDS];
     fill_words(&mut words, r);
     let n = evc_lists::lent(r, WORDS_LEN, MAX_WORDS);
     let got = evc_avail::evc_get_avail_inter(block_of(r), &words[..n]);
-    evc_lists::print(got.code as u64);
-    evc_lists::print_next(got.avail as u64);
+    evc_lists::print(out, got.code as u64)?;
+    evc_lists::print_next(out, got.avail as u64)
 }
 
 // ---- motion
@@ -129,18 +131,18 @@ fn old_of(r: &Record) -> EvcCandidates {
     }
 }
 
-fn print_motion(got: Motion) {
+fn print_motion(out: &mut impl Write, got: Motion) -> io::Result<()> {
     let cand = got.cand;
     let refi = cand.refi;
-    evc_lists::print(got.code as u64);
-    print_vector(cand.left);
-    print_vector(cand.up);
-    print_vector(cand.up_right);
-    print_vector(cand.collocated);
-    evc_lists::print_next_signed(refi[0] as i16);
-    evc_lists::print_next_signed(refi[1] as i16);
-    evc_lists::print_next_signed(refi[2] as i16);
-    evc_lists::print_next_signed(refi[3] as i16);
+    evc_lists::print(out, got.code as u64)?;
+    print_vector(out, cand.left)?;
+    print_vector(out, cand.up)?;
+    print_vector(out, cand.up_right)?;
+    print_vector(out, cand.collocated)?;
+    evc_lists::print_next_signed(out, refi[0] as i16)?;
+    evc_lists::print_next_signed(out, refi[1] as i16)?;
+    evc_lists::print_next_signed(out, refi[2] as i16)?;
+    evc_lists::print_next_signed(out, refi[3] as i16)
 }
 
 fn get_motion(r: &Record, map: &[i16], col: &[i16]) -> Motion {
@@ -150,14 +152,14 @@ fn get_motion(r: &Record, map: &[i16], col: &[i16]) -> Motion {
     evc_motion::get_motion(block_of(r), lidx, avail, map, has_col, col, old_of(r))
 }
 
-fn run_candidates(r: &Record) {
+fn run_candidates(out: &mut impl Write, r: &Record) -> io::Result<()> {
     let mut map = [0i16; MAX_MAP_LEN];
     let mut col = [0i16; MAX_MAP_LEN];
     fill_map(&mut map, r);
     fill_col(&mut col, r);
     let n = evc_lists::lent(r, MAP_LEN, MAX_MAP_LEN);
     let m = evc_lists::lent(r, COL_LEN, MAX_MAP_LEN);
-    print_motion(get_motion(r, &map[..n], &col[..m]));
+    print_motion(out, get_motion(r, &map[..n], &col[..m]))
 }
 
 // ---- direct vectors
@@ -173,10 +175,10 @@ fn pocs_of(r: &Record) -> Pocs {
     }
 }
 
-fn print_direct(got: EvcDirect) {
-    evc_lists::print(got.code as u64);
-    print_vector(got.mv0);
-    print_vector(got.mv1);
+fn print_direct(out: &mut impl Write, got: EvcDirect) -> io::Result<()> {
+    evc_lists::print(out, got.code as u64)?;
+    print_vector(out, got.mv0)?;
+    print_vector(out, got.mv1)
 }
 
 fn get_direct(r: &Record, col: &[i16]) -> EvcDirect {
@@ -184,41 +186,44 @@ fn get_direct(r: &Record, col: &[i16]) -> EvcDirect {
     evc_direct::evc_get_mv_dir(block_of(r), pocs_of(r), has_col, col)
 }
 
-fn run_direct(r: &Record) {
+fn run_direct(out: &mut impl Write, r: &Record) -> io::Result<()> {
     let mut col = [0i16; MAX_MAP_LEN];
     fill_col(&mut col, r);
     let n = evc_lists::lent(r, COL_LEN, MAX_MAP_LEN);
-    print_direct(get_direct(r, &col[..n]));
+    print_direct(out, get_direct(r, &col[..n]))
 }
 
 // ---- the list
 
-fn run_call(r: &Record) {
+fn run_call(out: &mut impl Write, r: &Record) -> io::Result<()> {
     let call = evc_lists::number(r, CALL);
     if call == 0 {
-        run_flags(r);
+        run_flags(out, r)
     } else if call == 1 {
-        run_candidates(r);
+        run_candidates(out, r)
     } else {
-        run_direct(r);
+        run_direct(out, r)
     }
 }
 
 // The next call; false at the end of the input.
-fn next() -> bool {
+fn next(input: &mut impl Read, out: &mut impl Write) -> io::Result<bool> {
     let mut r = [0u8; RECORD_LEN];
-    if !evc_lists::read(&mut r) {
-        return false;
+    if !evc_lists::read(input, &mut r)? {
+        return Ok(false);
     }
-    run_call(&r);
-    evc_lists::end_line();
-    true
+    run_call(out, &r)?;
+    evc_lists::end_line(out)?;
+    Ok(true)
 }
 
-fn main() {
-    for i in 0..MAX_RECORDS {
-        if !next() {
-            return;
+fn main(rt: HostRuntime) -> io::Result<()> {
+    let mut input = rt.reader();
+    let mut out = BufWriter::new(rt.alloc(), io::writer(&rt))?;
+    for _ in 0..MAX_RECORDS {
+        if !next(&mut input, &mut out)? {
+            break;
         }
     }
+    out.flush()
 }
