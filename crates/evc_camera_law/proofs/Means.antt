@@ -143,6 +143,7 @@ is_8192 = refl
 
 or_first : (a b : Bool) → T a → T (a || b)
 or_first true b t = tt
+or_first false b t = elim t [ ]
 
 -- 8192 beside another number, both over one denominator
 far : (a : ℕ) (e : ℤ) → T (ltb 0 (8192 * down e + a))

@@ -2,7 +2,7 @@
 -- 0 in both it is the sample. For luma and chroma at once. Assumes nothing.
 use mathlib.Core.List.{List, [], ◌∷◌}
 use mathlib.Core.Path.{◌≡◌, refl, sym, ap, ap₂, ◌∙◌, fun_ext}
-use Prim.Native.Nat.{ℕ, suc, ◌+◌, ◌<◌, ◌≤◌, suc-le-suc, zero-le}
+use Prim.Native.Nat.{ℕ, suc, ◌<◌, ◌≤◌, suc-le-suc, zero-le}
 use native.Mathlib.Omega.{arith}
 use lib.Dec.{lit<}
 use lib.IntN.{ℤ, pos, ◌+ℤ◌, ◌*ℤ◌}

@@ -1,7 +1,7 @@
 -- Demand 3, in the words of document 01, 'What demand 3 compares'; the mirrors and the exchange also say what becomes of the reports of document 02's W2. Each
 -- statement speaks of the definitions that evc_mc2's contract equates its answer and its first block with, so it holds of every call. evc_law/proofs/Theorems
 -- proves them.
-use Rattle.std.specs.Prelude.{true, cond, ◌&&◌, List, ◌≡◌, ℕ, ◌+◌, ◌*◌, ◌-◌, ◌/◌, ◌≤◌, ◌<◌, ℤ, pos, neg_ℤ, length, get_or, replicate}
+use Rattle.std.specs.Prelude.{true, cond, ◌&&◌, List, ◌≡◌, ℕ, ◌+◌, ◌*◌, ◌-◌, ◌/◌, ◌≤◌, ◌<◌, pos, neg_ℤ, length, get_or, replicate}
 use Rattle.evc_int.specs.Whole.{−◌}
 use Rattle.evc_def.specs.declared.EvcBlock.{EvcBlock}
 use Rattle.evc_def.specs.declared.EvcMv.{EvcMv}
