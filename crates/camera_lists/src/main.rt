@@ -6,7 +6,7 @@ ghost use Rattle.std.specs.Prelude.{◌*◌, ◌≤◌, length};
 use evc_camera::EvcCamera;
 use evc_lists::MAX_RECORDS;
 use std::io;
-use std::io::{BufWriter, Read, Write};
+use std::io::{Read, Write};
 
 const MAX_WORDS: usize = 100;
 
@@ -101,11 +101,11 @@ fn next(input: &mut impl Read, out: &mut impl Write) -> io::Result<bool> {
 
 fn main(rt: HostRuntime) -> io::Result<()> {
     let mut input = rt.reader();
-    let mut out = BufWriter::new(rt.alloc(), io::writer(&rt))?;
+    let mut out = io::writer(&rt);
     for _ in 0..MAX_RECORDS {
         if !next(&mut input, &mut out)? {
             break;
         }
     }
-    out.flush()
+    Ok(())
 }

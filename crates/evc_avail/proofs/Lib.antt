@@ -4,3 +4,4 @@ pub mod Seen
 pub mod Flags
 pub mod RegionFlags
 pub mod Laws
+pub mod Edges

@@ -1,9 +1,11 @@
 -- The flags from the values that the code computes. Assumes nothing.
-use Rattle.std.proofs.Common.{◌≡◌, ℕ, ◌+◌, Bool, true, false, cond, List, sym}
+use Rattle.std.proofs.Common.{◌≡◌, ℕ, ◌+◌, Bool, true, false, cond, not, ◌&&◌, List, sym, refl, ap}
 use Rattle.evc_def.specs.Blocks.{Allowed}
+use Rattle.evc_def.specs.Tables.{is_coded, is_intra}
 use Rattle.evc_def.specs.declared.EvcBlock.{EvcBlock}
-use Rattle.evc_avail.specs.Around.{left_of, first_column, last_column, right_of, above, first_row, below}
-use Rattle.evc_avail.specs.Regions.{is_inter_in, is_not_intra_in, avail_left_in, avail_right_in, avail_up_in, avail_of}
+use Rattle.evc_avail.specs.Around.{left_of, first_column, last_column, right_of, above, first_row, below, has_unit, word_of}
+use Rattle.evc_avail.specs.Flags.{flag, is_inter, is_not_intra, avail_left, avail_right, avail_up, avail_inter}
+use Rattle.evc_avail.specs.Regions.{of_picture, is_inter_in, is_not_intra_in, avail_left_in, avail_right_in, avail_up_in, avail_of}
 use Rattle.evc_avail.proofs.Around.{no_row}
 
 module _ (counts : ℕ → Bool) (b : EvcBlock) (map : List ℕ) where
@@ -34,3 +36,31 @@ module _ (counts : ℕ → Bool) (b : EvcBlock) (map : List ℕ) where
   pub all_flags : (left up right : ℕ) → left ≡ avail_left_in counts b map → up ≡ avail_up_in counts b map → right ≡ avail_right_in counts b map → left + up + right ≡ avail_of counts b map
   unfolding avail_of
   all_flags left up right p q r = rw (p, q, r)
+
+-- ---- where every unit of the picture counts, they are the flags of specs/Flags
+
+counted : (t : Bool) → t ≡ (t && true)
+counted true = refl
+counted false = refl
+
+-- the flags by the tests of two units
+abbrev by_tests : (ℕ → ℕ → Bool) → (ℕ → ℕ → Bool) → EvcBlock → ℕ
+by_tests inter not_intra b =
+    let left = inter (left_of b) (first_row b) in
+    let right = inter (right_of b) (first_row b) in
+    (flag 1 left + flag 7 (left && inter (left_of b) (below b)))
+    + (flag 0 (not_intra (first_column b) (above b)) + flag 9 (not_intra (last_column b) (above b)) + flag 5 (inter (left_of b) (above b)) + flag 6 (inter (right_of b) (above b)))
+    + (flag 3 right + flag 8 (right && inter (right_of b) (below b)))
+
+module _ (b : EvcBlock) (map : List ℕ) where
+  same_inter : (column row : ℕ) → is_inter b map column row ≡ is_inter_in of_picture b map column row
+  unfolding is_inter is_inter_in
+  same_inter column row = ap (λ (t : Bool). t && is_coded (word_of b map column row) && not (is_intra (word_of b map column row))) (counted (has_unit b column row))
+
+  same_not_intra : (column row : ℕ) → is_not_intra b map column row ≡ is_not_intra_in of_picture b map column row
+  unfolding is_not_intra is_not_intra_in
+  same_not_intra column row = ap (λ (t : Bool). t && not (is_intra (word_of b map column row))) (counted (has_unit b column row))
+
+  pub picture_flags : avail_inter b map ≡ avail_of of_picture b map
+  unfolding avail_inter avail_left avail_right avail_up avail_of avail_left_in avail_right_in avail_up_in
+  picture_flags i = by_tests (λ (column row : ℕ). same_inter column row i) (λ (column row : ℕ). same_not_intra column row i) b

@@ -1,6 +1,5 @@
 -- Document 01, 'Flags'.
-use Rattle.std.specs.Prelude.{◌≡◌, ℕ, ◌+◌, ◌^◌, Bool, cond, not, ◌&&◌, List, [], ◌∷◌, ◌++◌, length, replicate, ◌==◌, refl}
-use Rattle.evc_def.specs.Blocks.{bad_picture, bad_block}
+use Rattle.std.specs.Prelude.{◌≡◌, ℕ, ◌+◌, ◌^◌, Bool, cond, not, ◌&&◌, List, [], ◌∷◌, ◌++◌, length, replicate, ◌==◌}
 use Rattle.evc_def.specs.Codes.{Check, ◌when◌, first_of, block_checks}
 use Rattle.evc_def.specs.Tables.{is_coded, is_intra}
 use Rattle.evc_def.specs.declared.EvcBlock.{EvcBlock}
@@ -60,7 +59,3 @@ abbrev pub FlagEdges : Type 0
 FlagEdges =
     (get_avail_inter corner (replicate 4 0) ≡ record { code = 0; avail = 513 })
     × (get_avail_inter corner (replicate 4 0x80000000) ≡ record { code = 0; avail = 547 })
-
-pub flag_edges : FlagEdges
-unfolding get_avail_inter avail_inter avail_left avail_right avail_up is_inter is_not_intra first_of bad_picture bad_block
-flag_edges = (refl, refl)

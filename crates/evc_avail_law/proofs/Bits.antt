@@ -8,7 +8,8 @@ use lib.Dec.{eqb}
 use Rattle.evc_def.specs.Tables.{is_bit}
 use Rattle.evc_def.specs.declared.EvcBlock.{EvcBlock}
 use Rattle.evc_avail.specs.Around.{left_of, first_column, last_column, right_of, above, first_row, below}
-use Rattle.evc_avail.specs.Flags.{flag, is_inter, is_not_intra, avail_left, avail_right, avail_up, avail_of}
+use Rattle.evc_avail.specs.Flags.{flag}
+use Rattle.evc_avail.specs.Regions.{is_inter_in, is_not_intra_in, avail_left_in, avail_right_in, avail_up_in, avail_of}
 use Rattle.evc_avail.proofs.Laws.{one, one_le, weight}
 
 is_set : (set : Bool) (m : ℕ) → m ≡ one set → eqb m 1 ≡ set
@@ -46,10 +47,10 @@ read le lo-le up ri-up up_le up-ri ri lo-ri =
       up_right_bit = is_set up-ri _ (bit_6 (one lo-le + 4 * one ri-up + 2 * one lo-ri) (one up-ri) (2 * one le + one up + 32 * one up_le + 8 * one ri) n (omega (arith, sum)) r (omega arith));
     }
 
-pub flags_read : (counts : ℕ → Bool) (b : EvcBlock) (map : List ℕ) → Read (avail_of counts b map) (is_inter counts b map (left_of b) (first_row b)) (is_not_intra counts b map (first_column b) (above b)) (is_inter counts b map (right_of b) (above b))
-unfolding avail_of avail_left avail_right avail_up
+pub flags_read : (counts : ℕ → Bool) (b : EvcBlock) (map : List ℕ) → Read (avail_of counts b map) (is_inter_in counts b map (left_of b) (first_row b)) (is_not_intra_in counts b map (first_column b) (above b)) (is_inter_in counts b map (right_of b) (above b))
+unfolding avail_of avail_left_in avail_right_in avail_up_in
 flags_read counts b map =
-    let left = is_inter counts b map (left_of b) (first_row b) in
-    let right = is_inter counts b map (right_of b) (first_row b) in
-    read left (left && is_inter counts b map (left_of b) (below b)) (is_not_intra counts b map (first_column b) (above b)) (is_not_intra counts b map (last_column b) (above b))
-    (is_inter counts b map (left_of b) (above b)) (is_inter counts b map (right_of b) (above b)) right (right && is_inter counts b map (right_of b) (below b))
+    let left = is_inter_in counts b map (left_of b) (first_row b) in
+    let right = is_inter_in counts b map (right_of b) (first_row b) in
+    read left (left && is_inter_in counts b map (left_of b) (below b)) (is_not_intra_in counts b map (first_column b) (above b)) (is_not_intra_in counts b map (last_column b) (above b))
+    (is_inter_in counts b map (left_of b) (above b)) (is_inter_in counts b map (right_of b) (above b)) right (right && is_inter_in counts b map (right_of b) (below b))

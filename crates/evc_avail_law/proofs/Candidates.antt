@@ -16,9 +16,10 @@ use Rattle.evc_def.specs.declared.EvcBlock.{EvcBlock}
 use Rattle.evc_def.proofs.Codes.{both_accepted}
 use Rattle.evc_map.specs.Maps.{units_of, word_at, mv_at, w_scu, scup, scuw}
 use Rattle.evc_avail.specs.Around.{left_of, first_column, right_of, above, first_row, has_unit}
-use Rattle.evc_avail.specs.Flags.{is_inter, is_not_intra, avail_of, avail_checks}
+use Rattle.evc_avail.specs.Flags.{avail_checks}
+use Rattle.evc_avail.specs.Regions.{is_inter_in, is_not_intra_in, avail_of}
 use Rattle.evc_avail.specs.Slices.{of_slice, slice_checks, get_avail_inter_slice}
-use Rattle.evc_avail.proofs.Around.{Unit, inter_is, not_intra_is, positive, no_row, left_unit, up_unit, up_right_unit}
+use Rattle.evc_avail.proofs.Around.{Unit, inter_in_is, not_intra_in_is, positive, no_row, left_unit, up_unit, up_right_unit}
 use Rattle.evc_avail.proofs.Answers.{covers}
 use Rattle.evc_motion.specs.Candidates.{flag_outside, candidates, get_motion}
 use Rattle.evc_motion.specs.declared.EvcCandidates.{EvcCandidates}
@@ -29,19 +30,19 @@ use Rattle.evc_avail_law.proofs.Bits.{flags_read}
 module _ (counts : ℕ → Bool) (b : EvcBlock) (words : List ℕ) where
   -- ---- a unit outside is not found
 
-  no_inter : (column row : ℕ) → has_unit b column row ≡ false → is_inter counts b words column row ≡ false
-  unfolding is_inter
+  no_inter : (column row : ℕ) → has_unit b column row ≡ false → is_inter_in counts b words column row ≡ false
+  unfolding is_inter_in
   no_inter column row e = rw e
 
-  no_not_intra : (column row : ℕ) → has_unit b column row ≡ false → is_not_intra counts b words column row ≡ false
-  unfolding is_not_intra
+  no_not_intra : (column row : ℕ) → has_unit b column row ≡ false → is_not_intra_in counts b words column row ≡ false
+  unfolding is_not_intra_in
   no_not_intra column row e = rw e
 
   -- ---- a unit that is found counts
 
-  found_inter : {column row index : ℕ} (t : Bool) → Unit b column row index t → is_inter counts b words column row ≡ true → (index < units_of b.pic_w b.pic_h) × (counts (word_at words index) ≡ true)
+  found_inter : {column row index : ℕ} (t : Bool) → Unit b column row index t → is_inter_in counts b words column row ≡ true → (index < units_of b.pic_w b.pic_h) × (counts (word_at words index) ≡ true)
   found_inter {index = index} t u e =
-      let f = first _ _ _ _ (inter_is counts b words t u index _ refl refl ∙ e) in
+      let f = first _ _ _ _ (inter_in_is counts b words t u index _ refl refl ∙ e) in
       (u.index_low f.0, f.1)
     where
       first : (r s t u : Bool) → (r && s && t && u) ≡ true → (r ≡ true) × (s ≡ true)
@@ -49,8 +50,8 @@ module _ (counts : ℕ → Bool) (b : EvcBlock) (words : List ℕ) where
       first true false t u h = (refl, h)
       first false s t u h = (h, absurd (subst T (sym h) tt))
 
-  found_not_intra : {column row index : ℕ} → Unit b column row index true → is_not_intra counts b words column row ≡ true → (index < units_of b.pic_w b.pic_h) × (counts (word_at words index) ≡ true)
-  found_not_intra {index = index} u e = (u.index_low refl, first _ _ (not_intra_is counts b words u index _ refl refl ∙ e))
+  found_not_intra : {column row index : ℕ} → Unit b column row index true → is_not_intra_in counts b words column row ≡ true → (index < units_of b.pic_w b.pic_h) × (counts (word_at words index) ≡ true)
+  found_not_intra {index = index} u e = (u.index_low refl, first _ _ (not_intra_in_is counts b words u index _ refl refl ∙ e))
     where
       first : (s t : Bool) → (s && t) ≡ true → s ≡ true
       first true t h = refl
@@ -59,37 +60,37 @@ module _ (counts : ℕ → Bool) (b : EvcBlock) (words : List ℕ) where
 module _ (counts : ℕ → Bool) (b : EvcBlock) (words : List ℕ) (p : Allowed b.pic_w b.x b.w) (q : Allowed b.pic_h b.y b.h) where
   -- ---- the three units that candidates are taken from
 
-  left_found : is_inter counts b words (left_of b) (first_row b) ≡ true → (scup b - 1 < units_of b.pic_w b.pic_h) × (counts (word_at words (scup b - 1)) ≡ true)
+  left_found : is_inter_in counts b words (left_of b) (first_row b) ≡ true → (scup b - 1 < units_of b.pic_w b.pic_h) × (counts (word_at words (scup b - 1)) ≡ true)
   left_found e = found_inter counts b words _ (left_unit b p q) e
 
   -- there is none above a block of the first row
-  below_first : (is_not_intra counts b words (first_column b) (above b) ≡ true) ⊎ (is_inter counts b words (right_of b) (above b) ≡ true) → 0 < b.y
+  below_first : (is_not_intra_in counts b words (first_column b) (above b) ≡ true) ⊎ (is_inter_in counts b words (right_of b) (above b) ≡ true) → 0 < b.y
   below_first h = positive b.y (λ z. ⊎_elim
       (λ e. subst T (sym e ∙ no_not_intra counts b words (first_column b) (above b) (no_row b p q (first_column b) z)) tt)
       (λ e. subst T (sym e ∙ no_inter counts b words (right_of b) (above b) (no_row b p q (right_of b) z)) tt) h)
 
-  up_found : is_not_intra counts b words (first_column b) (above b) ≡ true → (scup b - w_scu b < units_of b.pic_w b.pic_h) × (counts (word_at words (scup b - w_scu b)) ≡ true)
+  up_found : is_not_intra_in counts b words (first_column b) (above b) ≡ true → (scup b - w_scu b < units_of b.pic_w b.pic_h) × (counts (word_at words (scup b - w_scu b)) ≡ true)
   up_found e = found_not_intra counts b words (up_unit b p q (below_first (inl e))) e
 
-  up_right_found : is_inter counts b words (right_of b) (above b) ≡ true → (scup b - w_scu b + scuw b < units_of b.pic_w b.pic_h) × (counts (word_at words (scup b - w_scu b + scuw b)) ≡ true)
+  up_right_found : is_inter_in counts b words (right_of b) (above b) ≡ true → (scup b - w_scu b + scuw b < units_of b.pic_w b.pic_h) × (counts (word_at words (scup b - w_scu b + scuw b)) ≡ true)
   up_right_found e = found_inter counts b words _ (up_right_unit b p q (below_first (inr e))) e
 
   -- ---- none of them lies outside
 
-  left_inside : eqb b.x 0 ≡ true → is_inter counts b words (left_of b) (first_row b) ≡ false
+  left_inside : eqb b.x 0 ≡ true → is_inter_in counts b words (left_of b) (first_row b) ≡ false
   left_inside z = no_inter counts b words (left_of b) (first_row b) ((left_unit b p q).exists ∙ ap not z)
 
-  up_inside : eqb b.y 0 ≡ true → is_not_intra counts b words (first_column b) (above b) ≡ false
+  up_inside : eqb b.y 0 ≡ true → is_not_intra_in counts b words (first_column b) (above b) ≡ false
   up_inside z = no_not_intra counts b words (first_column b) (above b) (no_row b p q (first_column b) (eqb-true b.y 0 z))
 
-  up_right_inside : (eqb b.y 0 || eqb (b.x + b.w) b.pic_w) ≡ true → is_inter counts b words (right_of b) (above b) ≡ false
-  up_right_inside z = by_test (is_inter counts b words (right_of b) (above b)) refl
+  up_right_inside : (eqb b.y 0 || eqb (b.x + b.w) b.pic_w) ≡ true → is_inter_in counts b words (right_of b) (above b) ≡ false
+  up_right_inside z = by_test (is_inter_in counts b words (right_of b) (above b)) refl
     where
       last : (s t : Bool) → (s || t) ≡ true → s ≡ false → t ≡ true
       last true t h e = absurd (subst T e tt)
       last false t h e = h
 
-      by_test : (t : Bool) → is_inter counts b words (right_of b) (above b) ≡ t → is_inter counts b words (right_of b) (above b) ≡ false
+      by_test : (t : Bool) → is_inter_in counts b words (right_of b) (above b) ≡ t → is_inter_in counts b words (right_of b) (above b) ≡ false
       by_test false e = e
       by_test true e =
           let l = below_first (inr e) in

@@ -12,27 +12,27 @@ use Rattle.evc_motion.specs.declared.EvcCandidates.{EvcCandidates}
 -- ---- the units that flags look at
 
 pub data Neighbour : Type 0 where
-  left lowerLeft right lowerRight up rightUp upLeft upRight : Neighbour
+  left lower_left right lower_right up right_up up_left up_right : Neighbour
 
 abbrev pub column_of : EvcBlock → Neighbour → ℕ
 column_of b left = left_of b
-column_of b lowerLeft = left_of b
+column_of b lower_left = left_of b
 column_of b right = right_of b
-column_of b lowerRight = right_of b
+column_of b lower_right = right_of b
 column_of b up = first_column b
-column_of b rightUp = last_column b
-column_of b upLeft = left_of b
-column_of b upRight = right_of b
+column_of b right_up = last_column b
+column_of b up_left = left_of b
+column_of b up_right = right_of b
 
 abbrev pub row_of : EvcBlock → Neighbour → ℕ
 row_of b left = first_row b
-row_of b lowerLeft = below b
+row_of b lower_left = below b
 row_of b right = first_row b
-row_of b lowerRight = below b
+row_of b lower_right = below b
 row_of b up = above b
-row_of b rightUp = above b
-row_of b upLeft = above b
-row_of b upRight = above b
+row_of b right_up = above b
+row_of b up_left = above b
+row_of b up_right = above b
 
 abbrev pub is_there : EvcBlock → Neighbour → Bool
 is_there b k = has_unit b (column_of b k) (row_of b k)

@@ -1,5 +1,5 @@
 -- Document 01, 'Clipping'.
-use Rattle.std.specs.Prelude.{cond, ◌≡◌, refl, ℕ, eqb, ℤ, pos, ◌+ℤ◌, ◌-ℤ◌, ◌*ℤ◌}
+use Rattle.std.specs.Prelude.{cond, ◌≡◌, ℕ, eqb, ℤ, pos, ◌+ℤ◌, ◌-ℤ◌, ◌*ℤ◌}
 use Rattle.std.specs.Int.Signed.{lt_z}
 use Rattle.evc_int.specs.Whole.{−◌}
 use Rattle.evc_def.specs.Codes.{first_of, block_checks, zero_mv}
@@ -95,6 +95,3 @@ ClipEdges =
     × (clipped 64 16 16 (− 321) ≡ record { mv = − 320; moved = moved_low })
     × (clipped 64 48 16 (pos 256) ≡ record { mv = pos 256; moved = not_moved })
     × (clipped 64 48 16 (pos 257) ≡ record { mv = pos 256; moved = moved_high })
-
-pub clip_edges : ClipEdges
-clip_edges = (refl, refl, refl, refl)

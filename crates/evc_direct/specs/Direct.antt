@@ -1,5 +1,5 @@
 -- Document 01, 'Direct vectors'.
-use Rattle.std.specs.Prelude.{Bool, cond, ◌&&◌, ◌||◌, List, [], ◌∷◌, ◌++◌, ◌≡◌, refl, ℕ, ltb, eqb, ℤ, pos, neg_ℤ, ◌-ℤ◌, ◌*ℤ◌, length}
+use Rattle.std.specs.Prelude.{Bool, cond, ◌&&◌, ◌||◌, List, [], ◌∷◌, ◌++◌, ◌≡◌, ℕ, ltb, eqb, ℤ, pos, neg_ℤ, ◌-ℤ◌, ◌*ℤ◌, length}
 use Rattle.std.specs.Int.Signed.{quot_z}
 use Rattle.evc_int.specs.Whole.{−◌}
 use Rattle.evc_int.specs.LowBits.{low16}
@@ -77,7 +77,3 @@ DirectEdges =
     ≡ record { code = 0; mv0 = record { x = pos 3; y = − 3 }; mv1 = record { x = − 3; y = pos 3 } })
     × (direct_vectors (record { poc = 5; poc0 = 0; poc1 = 6; list_poc0 = 5 }) (record { x = pos 10000; y = pos 0 })
     ≡ record { code = 0; mv0 = record { x = − 15536; y = pos 0 }; mv1 = record { x = − 10000; y = pos 0 } })
-
-pub direct_edges : DirectEdges
-unfolding direct_vectors exact_quotients low16
-direct_edges = (refl, refl)

@@ -1,3 +1,4 @@
 pub mod Tables
 pub mod Sums
 pub mod Laws
+pub mod Edges

@@ -1,5 +1,5 @@
 -- Document 01, 'One plane' and 'The fixed filters': the interpolation. One definition for luma and chroma.
-use Rattle.std.specs.Prelude.{List, [], ◌∷◌, ◌≡◌, refl, ℕ, suc, ◌+◌, ◌*◌, min, ℤ, pos, ◌+ℤ◌, ◌*ℤ◌, get_or}
+use Rattle.std.specs.Prelude.{List, [], ◌∷◌, ◌≡◌, ℕ, suc, ◌+◌, ◌*◌, min, ℤ, pos, ◌+ℤ◌, ◌*ℤ◌, get_or}
 use Rattle.std.specs.Int.Signed.{shr_z}
 use Rattle.evc_int.specs.Whole.{−◌, ◌⁺}
 use Rattle.evc_plane.specs.declared.PlaneType.{PlaneType}
@@ -97,7 +97,3 @@ FilterEdges =
     × (interpolated Y 3 (0 ∷ 0 ∷ 100 ∷ 200 ∷ 0 ∷ 0 ∷ []) 0 1 ≡ 194)
     × (interpolated UV 1 (0 ∷ 64 ∷ 128 ∷ 0 ∷ []) 0 1 ≡ 78)
     × (row_stage Y 1 (0 ∷ 1 ∷ 0 ∷ 0 ∷ 0 ∷ 0 ∷ []) 0 ≡ − 2)
-
-pub filter_edges : FilterEdges
-unfolding interpolated row_stage
-filter_edges = (refl, refl, refl, refl, refl, refl)

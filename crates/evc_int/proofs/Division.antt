@@ -1,9 +1,9 @@
 -- Rounding down (`shr_z`), remainders (`modulo`) and quotients toward zero (`quot_z`). Assumes nothing.
 use mathlib.Core.Path.{◌≡◌, refl, sym, ap, ◌∙◌}
-use Prim.Native.Nat.{ℕ, zero, suc, ◌+◌, ◌-◌, ◌*◌, ◌/◌, ◌%◌, ◌≤◌, ◌<◌}
+use Prim.Native.Nat.{ℕ, suc, ◌+◌, ◌-◌, ◌*◌, ◌/◌, ◌%◌, ◌≤◌, ◌<◌}
 use native.Mathlib.Omega.{arith}
 use native.Mathlib.Nat.{zero-div, add-mul-mod_self_right, div-eq_of_lt-le, div-add-mod, mod-lt, div-le_self, le_trans}
-use lib.IntN.{ℤ, pos, negsuc, neg_ℤ, nat_abs, ◌+ℤ◌, ◌*ℤ◌}
+use lib.IntN.{ℤ, pos, negsuc, nat_abs, ◌+ℤ◌, ◌*ℤ◌}
 use lib.Signed.{shr_z, quot_z}
 use Rattle.evc_int.specs.Whole.{◌⁺, ◌⁻, ◌modulo◌}
 use Rattle.evc_int.proofs.Whole.{Is, nat, is--, is_neg, is_by, is_eq, abs_neg}

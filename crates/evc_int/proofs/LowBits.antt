@@ -1,19 +1,19 @@
 -- `low16 z` is the one number in -32768..32767 that differs from z by a multiple of 65536. Assumes nothing.
 use mathlib.Core.Bool.{Bool, true, false, cond}
-use mathlib.Core.Path.{◌≡◌, refl, sym, ap, subst, ◌∙◌}
-use Prim.Native.Nat.{ℕ, ◌+◌, ◌*◌, ◌-◌, ◌<◌, ◌≤◌}
+use mathlib.Core.Path.{◌≡◌, refl, sym}
+use Prim.Native.Nat.{ℕ, ◌<◌, ◌≤◌}
 use native.Mathlib.Omega.{arith}
-use lib.Dec.{lit<, ltb, ltb→lt, nltb→le, T}
+use lib.Dec.{lit<, ltb}
 use borrow.Author.Tests.{lt-ltb, le-ltb, ltb-true, ltb-false}
 use lib.IntN.{ℤ, pos, ◌+ℤ◌, ◌-ℤ◌, ◌*ℤ◌}
 use lib.Signed.{shr_z}
 use mir.Syntax.{w16}
 use mir.Val.{SFits}
-use Rattle.evc_int.specs.Whole.{◌⁺, ◌⁻, ◌modulo◌}
+use Rattle.evc_int.specs.Whole.{◌modulo◌}
 use Rattle.evc_int.specs.LowBits.{low16, signed16}
-use Rattle.evc_int.proofs.Whole.{Is, nat, of, is--, same}
+use Rattle.evc_int.proofs.Whole.{nat, of, is--, same}
 use Rattle.evc_int.proofs.Expressions.{ !, ◌⊕◌, ◌⊗◌, ◌⊖◌, solve, fact}
-use Rattle.evc_int.proofs.Division.{split, split_only, modulo_lt}
+use Rattle.evc_int.proofs.Division.{split, modulo_lt}
 use Rattle.evc_int.proofs.Machine.{fit, rng}
 
 -- sixteen bits below the half and from the half on

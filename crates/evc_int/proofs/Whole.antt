@@ -1,12 +1,12 @@
 -- Facts of ℤ as facts of ℕ, which omega reads: `Is z a b` says that z is a less b, for any two naturals a and b.
 -- A term of ℤ is read by a tree of the lemmas `is-..`, one for each operation; what is left is a fact of naturals. Assumes nothing.
 use mathlib.Core.Bool.{Bool, true, false, not, cond}
-use mathlib.Core.Path.{◌≡◌, refl, sym, ap, subst, ◌∙◌}
+use mathlib.Core.Path.{◌≡◌, refl, sym, ap, subst}
 use Prim.Native.Nat.{ℕ, zero, suc, ◌+◌, ◌-◌, ◌*◌, ◌≤◌, ◌<◌}
 use native.Mathlib.Omega.{arith}
 use native.Mathlib.Nat.{mul-le-mul}
 use lib.IntN.{ℤ, pos, negsuc, neg_ℤ, ◌+ℤ◌, ◌-ℤ◌, ◌*ℤ◌, sub_ℕ, nat_abs}
-use lib.Signed.{lt_z, le_z, ◌≤ℤ◌, ◌<ℤ◌}
+use lib.Signed.{lt_z, le_z, ◌≤ℤ◌}
 use lib.Dec.{T, ltb, ltb→lt, nltb→le, leb, leb→le, nleb→lt, eqb→eq}
 use Rattle.evc_int.specs.Whole.{◌⁺, ◌⁻, eq_z}
 

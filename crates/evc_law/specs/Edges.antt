@@ -1,10 +1,10 @@
 -- Document 01, 'Edges to try': "The [P] lines form one list, shown by a single statement to hold for the definitions." The fifteen lines in the document's order;
--- each group is stated and shown beside its definitions, which the contracts cite.
-use Rattle.evc_filter.specs.Filter.{FilterEdges, filter_edges}
-use Rattle.evc_clip.specs.Clip.{ClipEdges, clip_edges}
-use Rattle.evc_direct.specs.Direct.{DirectEdges, direct_edges}
-use Rattle.evc_avail.specs.Flags.{FlagEdges, flag_edges}
-use Rattle.evc_mc.specs.Block.{AverageEdges, average_edges}
+-- each group is stated beside its definitions, which the contracts cite, and shown in proofs/Edges of its crate.
+use Rattle.evc_filter.specs.Filter.{FilterEdges}
+use Rattle.evc_clip.specs.Clip.{ClipEdges}
+use Rattle.evc_direct.specs.Direct.{DirectEdges}
+use Rattle.evc_avail.specs.Flags.{FlagEdges}
+use Rattle.evc_mc.specs.Block.{AverageEdges}
 
 abbrev pub Edges : Type 0
 Edges =
@@ -23,6 +23,3 @@ Edges =
     × AverageEdges
     -- "8 by 8 picture, 4 by 4 block at (4,4): flags 513 if all words are 0." "547 if all are 0x80000000."
     × FlagEdges
-
-pub edges : Edges
-edges = (filter_edges, clip_edges, direct_edges, average_edges, flag_edges)

@@ -3,3 +3,4 @@ pub mod Checks
 pub mod Motion
 pub mod Samples
 pub mod Predictions
+pub mod Edges

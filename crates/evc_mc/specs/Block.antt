@@ -1,5 +1,5 @@
 -- Document 01, 'Block': the prediction of a block from one or two lists, evc_mc2.
-use Rattle.std.specs.Prelude.{Bool, not, cond, ◌&&◌, ◌||◌, List, [], ◌∷◌, ◌++◌, ◌≡◌, refl, ℕ, ◌+◌, ◌/◌, eqb, ltb, length, get_or}
+use Rattle.std.specs.Prelude.{Bool, not, cond, ◌&&◌, ◌||◌, List, [], ◌∷◌, ◌++◌, ◌≡◌, ℕ, ◌+◌, ◌/◌, eqb, ltb, length, get_or}
 use Rattle.evc_int.specs.Whole.{eq_z}
 use Rattle.evc_int.specs.Lists.{with_block}
 use Rattle.evc_def.specs.Blocks.{max_poc}
@@ -148,6 +148,3 @@ mc2_second b l m pred0 pred1 =
 -- 'Edges to try': "Average of 3 and 4: 4."
 abbrev pub AverageEdges : Type 0
 AverageEdges = average 3 4 ≡ 4
-
-pub average_edges : AverageEdges
-average_edges = refl

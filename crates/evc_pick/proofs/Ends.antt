@@ -4,7 +4,7 @@ use Prim.Native.Nat.{ℕ}
 use seplogic.Ra.Ura.{Ura}
 use mir.Syntax.{Lifetime}
 use mir.Val.{Val}
-use base.Logic.{SProp, ent, sep, wand, all, all_e, apply∗}
+use base.Logic.{SProp, ent, sep, wand, all_e, apply∗}
 use base.Fml.{Lft, Fml, fres}
 use types.Logic.{Logic, sem}
 use types.Kit.{‵, raw, ◌$◌, ◌∵◌, !, qed, by, move, keep, drop, use1, fsplit, assume, each}

@@ -3,7 +3,6 @@ use mathlib.Core.Bool.{true, not}
 use mathlib.Core.Path.{◌≡◌, sym, ◌∙◌}
 use Prim.Native.Nat.{◌+◌, ◌-◌, ◌*◌}
 use native.Mathlib.Omega.{arith}
-use borrow.Author.Tests.{not-true, not-false}
 use lib.Dec.{eqb}
 use Rattle.evc_map.specs.Maps.{scup, scuh, w_scu}
 use Rattle.evc_avail.specs.Around.{left_of, first_row, below}

@@ -1,6 +1,5 @@
 -- `evc_avail::avail_left_in` meets its contract. Assumes nothing.
 use Rattle.std.proofs.Common.{◌≡◌, ◌+◌, ◌-◌, ◌*◌, true, not, eqb, sym, ◌∙◌, arith}
-use borrow.Author.Tests.{not-true, not-false}
 use Rattle.evc_map.specs.Maps.{scup, scuh, w_scu}
 use Rattle.evc_avail.specs.Around.{left_of, first_row, below}
 use Rattle.evc_avail.specs.Regions.{is_inter_in}

@@ -3,7 +3,6 @@ use mathlib.Core.Bool.{true}
 use mathlib.Core.Path.{◌≡◌, sym, ◌∙◌, subst}
 use Prim.Native.Nat.{◌+◌, ◌*◌}
 use native.Mathlib.Omega.{arith}
-use borrow.Author.Tests.{not-true, not-false}
 use Rattle.evc_map.specs.Maps.{scup, scuw, scuh, w_scu}
 use Rattle.evc_avail.specs.Around.{right_of, first_row, below}
 use Rattle.evc_avail.specs.Flags.{is_inter}

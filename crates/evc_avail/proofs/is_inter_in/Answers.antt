@@ -1,6 +1,5 @@
 -- `evc_avail::is_inter_in` meets its contract. Assumes nothing.
 use Rattle.std.proofs.Common.{◌≡◌, ℕ, ◌-◌, ◌<◌, ◌≤◌, Bool, true, ◌&&◌, eqb, length, sym, ◌∙◌, ap₂}
-use borrow.Author.Tests.{not-true, not-false}
 use Rattle.evc_avail.proofs.Seen.{inter_seen}
 use Rattle.evc_avail.proofs.is_inter_in.Goals as goal
 use Rattle.evc_avail.proofs.is_inter_in.Lts as place

@@ -1,12 +1,6 @@
 -- `evc_blocks::second8_rows` meets its contract. The invariant: the first y rows are written. Assumes nothing.
-use Prim.Native.Nat.{◌+◌, ◌*◌, ◌<◌}
-use native.Mathlib.Omega.{arith}
-use lib.ListN.{length}
-use Rattle.evc_blocks.proofs.Rows.{row, reads_fit, none_written, room, one_more, writes_fit, all_written, next_fits, nearer}
+use Rattle.evc_blocks.proofs.Rows.{none_written, one_more}
 use Rattle.evc_blocks.proofs.second8_rows.Goals as goal
-use Rattle.evc_blocks.proofs.second8_rows.Lts as place
-use Rattle.evc_blocks.proofs.second8_rows.Reads.{Pre, Post}
-use Rattle.evc_blocks.proofs.second8_rows.Tie.{the-claims as claims}
 
 pub loop-y-preserved : goal.loop-y-preserved
 loop-y-preserved c =

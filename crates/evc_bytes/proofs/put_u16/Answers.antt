@@ -1,5 +1,4 @@
 -- `evc_bytes::put_u16` meets its contract. Assumes nothing.
-use borrow.Author.Rules.{rules}
 use Rattle.evc_bytes.proofs.Written.{joined}
 use Rattle.evc_bytes.proofs.put_u16.Goals as goal
 

@@ -1,5 +1,4 @@
 -- `evc_bytes::put_u8` meets its contract. Assumes nothing.
-use borrow.Author.Rules.{rules}
 use Rattle.evc_bytes.proofs.Written.{stored}
 use Rattle.evc_bytes.proofs.put_u8.Goals as goal
 

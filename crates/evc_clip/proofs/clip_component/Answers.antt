@@ -1,14 +1,12 @@
 -- `evc_clip::clip_component` meets its contract: the vector is what leads to the clipped place. Assumes nothing.
-use mathlib.Core.Path.{◌≡◌, sym, subst, ◌∙◌}
+use mathlib.Core.Path.{◌≡◌, sym, subst}
 use Prim.Native.Nat.{ℕ}
 use native.Mathlib.Omega.{arith}
 use lib.IntN.{ℤ, pos, ◌-ℤ◌, ◌*ℤ◌}
 use mir.Facts.{to_z-of_z}
 use mir.Syntax.{w16}
 use mir.Val.{SFits}
-use Rattle.evc_int.proofs.Whole.{is-k*, is_eq, nat}
 use Rattle.evc_int.proofs.Expressions.{ !, ◌⊕◌, ◌⊖◌, ◌⊗◌, solve}
-use Rattle.evc_int.proofs.Machine.{fit, res}
 use Rattle.evc_clip.specs.Clip.{place_of, clip_component}
 use Rattle.evc_clip.proofs.Laws.{clipped_fits}
 use Rattle.evc_clip.proofs.clip_component.Goals as goal

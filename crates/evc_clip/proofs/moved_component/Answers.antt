@@ -1,15 +1,12 @@
 -- `evc_clip::moved_component` meets its contract: the report follows from the exact place and the clipped one. Assumes nothing.
 use mathlib.Core.Bool.{true, false}
 use mathlib.Core.Path.{◌≡◌, refl, ap, ◌∙◌}
-use native.Mathlib.Omega.{arith}
 use borrow.Author.Rules.{rules}
 use lib.IntN.{ℤ, pos, ◌+ℤ◌, ◌*ℤ◌}
 use lib.Signed.{lt_z}
 use mir.Facts.{to_z-of_z}
 use mir.Syntax.{w32}
 use mir.Val.{SFits}
-use Rattle.evc_int.proofs.Whole.{is-+, is-k*, is_eq, nat}
-use Rattle.evc_int.proofs.Machine.{signed, arg, fit}
 use Rattle.evc_clip.specs.Clip.{place_of, clip_component}
 use Rattle.evc_clip.proofs.Laws.{report}
 use Rattle.evc_clip.proofs.moved_component.Goals as goal

@@ -1,7 +1,5 @@
 -- `evc_direct::direct_mv` meets its contract. Assumes nothing.
-use mathlib.Core.Path.{ap, ◌∙◌}
 use native.Mathlib.Omega.{arith}
-use Rattle.evc_direct.specs.Direct.{direct_vectors}
 use Rattle.evc_direct.proofs.Direct.{block_good, map_good, counts_good}
 use Rattle.evc_direct.proofs.direct_mv.Goals as goal
 

@@ -1,23 +1,17 @@
 -- `evc_direct::direct_vectors` meets its contract: zeros where co is 0, else four scaled components. Assumes nothing.
-use mathlib.Core.Path.{◌≡◌, refl, ap₂, ◌∙◌}
-use Prim.Native.Nat.{ℕ, zero, suc, ◌≤◌, ◌<◌}
+use mathlib.Core.Path.{◌≡◌, ap₂, ◌∙◌}
 use native.Mathlib.Omega.{arith}
 use borrow.Author.Tests.{eq-eqb, ne_eqb}
-use lib.IntN.{ℤ, pos, nat_abs, ◌-ℤ◌}
+use lib.IntN.{ℤ, pos, ◌-ℤ◌}
 use mir.Syntax.{w32}
 use mir.Val.{to_z, of_z}
 use Rattle.evc_int.specs.LowBits.{low16}
-use Rattle.evc_int.proofs.Whole.{is--, is_eq, nat, abs_of}
 use Rattle.evc_int.proofs.Expressions.{ !, ◌⊖◌, neg, solve}
 use Rattle.evc_int.proofs.Machine.{res}
-use Rattle.evc_def.specs.Blocks.{max_poc}
 use Rattle.evc_def.specs.declared.EvcMv.{EvcMv}
 use Rattle.evc_direct.specs.Direct.{dpoc_co, dpoc0, dpoc1, exact_quotient, exact_quotients, low_mv, direct_vectors}
 use Rattle.evc_direct.specs.declared.Pocs.{Pocs}
 use Rattle.evc_direct.proofs.direct_vectors.Goals as goal
-use Rattle.evc_direct.proofs.direct_vectors.Lts as place
-use Rattle.evc_direct.proofs.direct_vectors.Reads.{Pre, Post}
-use Rattle.evc_direct.proofs.direct_vectors.Tie.{the-claims as claims}
 
 -- a vector scaled by a distance
 abbrev scaled_by : ℤ → ℤ → EvcMv → EvcMv

@@ -8,7 +8,7 @@ use mir.Val.{SFits}
 use mir.Facts.{to_z-of_z, sfits_widen}
 use Rattle.evc_int.proofs.Whole.{abs_mul_le}
 use Rattle.evc_int.proofs.Division.{abs_quot_le}
-use Rattle.evc_int.proofs.Machine.{fit_abs, rng_abs, bits_pos, res}
+use Rattle.evc_int.proofs.Machine.{fit_abs, rng_abs, res}
 use Rattle.evc_direct.proofs.scaled.Goals as goal
 use Rattle.evc_direct.proofs.scaled.Lts as place
 use Rattle.evc_direct.proofs.scaled.Reads.{Pre, Post}

@@ -3,7 +3,7 @@ use Prim.Native.Nat.{ℕ, ◌+◌, ◌*◌, ◌/◌, ◌%◌, ◌≤◌}
 use mathlib.Core.Path.{◌≡◌, ap}
 use native.Mathlib.Nat.{mul-le-mul, mul-le-mul_left, mul-le-mul_right}
 use native.Mathlib.Omega.{arith}
-use lib.Bits.{bit_and, and_mask, and_le_l}
+use lib.Bits.{bit_and, and_mask}
 use Rattle.evc_filter.proofs.times.Goals as goal
 use Rattle.evc_filter.proofs.times.Lts as place
 use Rattle.evc_filter.proofs.times.Reads.{Pre, Post}

@@ -1,12 +1,10 @@
 -- `evc_interp::evc_mc_plane` meets its contract: refused, or the call of its plane. Assumes nothing.
 use mathlib.Core.Path.{◌≡◌, sym, ap₂, ◌∙◌}
-use mathlib.Core.Bool.{false}
 use native.Mathlib.Omega.{arith}
 use borrow.Author.Rules.{rules}
 use mir.Facts.{to_z-of_z}
 use mir.Syntax.{w16}
 use mir.Val.{to_z, of_z, SFits}
-use Rattle.evc_def.specs.Blocks.{bad_picture}
 use Rattle.evc_def.specs.Places.{given_place}
 use Rattle.evc_def.specs.declared.EvcMv.{EvcMv}
 use Rattle.evc_def.specs.declared.Qpel.{Qpel}
@@ -15,9 +13,6 @@ use Rattle.evc_plane.specs.declared.PlaneType.{PlaneType}
 use Rattle.evc_interp.specs.Prediction.{mc_plane_code, mc_plane_after}
 use Rattle.evc_interp.proofs.Codes.{code_1, untouched}
 use Rattle.evc_interp.proofs.evc_mc_plane.Goals as goal
-use Rattle.evc_interp.proofs.evc_mc_plane.Lts as place
-use Rattle.evc_interp.proofs.evc_mc_plane.Reads.{Pre, Post}
-use Rattle.evc_interp.proofs.evc_mc_plane.Tie.{the-claims as claims, handed_clauses as clauses}
 
 pub returns-then-bad_picture : goal.returns-then-bad_picture
 returns-then-bad_picture c = let parts = untouched _ _ _ _ _ _ _ _ _ 1 (omega arith) (code_1 _ _ _ _ _ _ _ _ (sym c.bad_picture.ensures ∙ c.if-bad_picture.true)) in record { value = parts.0; pred_after = parts.1 }

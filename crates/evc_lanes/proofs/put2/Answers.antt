@@ -1,6 +1,4 @@
 -- `evc_lanes::put2` meets its contract. Assumes nothing.
-use native.Mathlib.Omega.{arith}
-use lib.ListN.{length-set}
 use Rattle.evc_lanes.proofs.Lanes.{two_lanes}
 use Rattle.evc_lanes.proofs.put2.Goals as goal
 

@@ -1,6 +1,4 @@
 -- `evc_lanes::put4` meets its contract. Assumes nothing.
-use native.Mathlib.Omega.{arith}
-use lib.ListN.{length-set}
 use Rattle.evc_lanes.proofs.Lanes.{four_lanes}
 use Rattle.evc_lanes.proofs.put4.Goals as goal
 

@@ -1,6 +1,4 @@
 -- `evc_lanes::put8` meets its contract. Assumes nothing.
-use native.Mathlib.Omega.{arith}
-use lib.ListN.{length-set}
 use Rattle.evc_lanes.proofs.Lanes.{eight_lanes}
 use Rattle.evc_lanes.proofs.put8.Goals as goal
 

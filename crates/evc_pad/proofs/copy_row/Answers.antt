@@ -1,12 +1,12 @@
 -- `evc_pad::copy_row` meets its contract. The invariant: the first x samples are copied; the row that is read stays. Assumes nothing.
-use Prim.Native.Nat.{ℕ, ◌+◌, ◌-◌, ◌<◌, ◌≤◌}
+use Prim.Native.Nat.{ℕ, ◌+◌, ◌<◌, ◌≤◌}
 use mathlib.Core.Path.{◌≡◌, refl, ap, ◌∙◌}
 use mathlib.Core.List.{List}
 use mathlib.Core.Logic.{⊎_elim, ◌⊎◌, inl, inr}
 use native.Mathlib.Omega.{arith}
 use lib.ListN.{length-set, get_or}
 use Rattle.evc_int.specs.Lists.{with_row}
-use Rattle.evc_int.proofs.Lists.{row_step, row_done, with_row-out}
+use Rattle.evc_int.proofs.Lists.{row_step, with_row-out}
 use Rattle.evc_pad.proofs.copy_row.Goals as goal
 
 pub loop-x-init : goal.loop-x-init

@@ -3,7 +3,7 @@ use mathlib.Core.Path.{refl}
 use native.Mathlib.Omega.{arith}
 use lib.ListN.{length-set}
 use Rattle.evc_int.specs.Lists.{with_row}
-use Rattle.evc_int.proofs.Lists.{row_step, row_done}
+use Rattle.evc_int.proofs.Lists.{row_step}
 use Rattle.evc_pad.proofs.fill.Goals as goal
 
 pub loop-x-init : goal.loop-x-init

@@ -1,9 +1,6 @@
 -- `evc_paths::columns` meets its contract. Assumes nothing.
 use mathlib.Core.Path.{◌∙◌}
-use Prim.Native.Nat.{◌*◌, ◌<◌, ◌≤◌}
-use native.Mathlib.Nat.{mul-le-mul}
 use native.Mathlib.Omega.{arith}
-use mathlib.Core.Logic.{⊎_elim}
 use Rattle.evc_paths.proofs.Paths.{Lanes, lanes, lanes_rows, lanes_room, first_asks, second_asks, second_done}
 use Rattle.evc_paths.proofs.columns.Goals as goal
 use Rattle.evc_paths.proofs.columns.Lts as place

@@ -1,15 +1,9 @@
 -- `evc_paths::copy_row` meets its contract. The invariant: the first x samples are copied, x a multiple of 8. Assumes nothing.
-use Prim.Native.Nat.{◌+◌, ◌<◌}
 use mathlib.Core.Path.{refl, ◌∙◌}
 use native.Mathlib.Omega.{arith}
 use Rattle.evc_int.specs.Lists.{with_row}
-use Rattle.evc_int.proofs.Lists.{row_done}
-use Rattle.evc_lanes.proofs.Lanes.{eights}
-use Rattle.evc_paths.proofs.Paths.{copied, copied_more}
+use Rattle.evc_paths.proofs.Paths.{copied_more}
 use Rattle.evc_paths.proofs.copy_row.Goals as goal
-use Rattle.evc_paths.proofs.copy_row.Lts as place
-use Rattle.evc_paths.proofs.copy_row.Reads.{Pre, Post}
-use Rattle.evc_paths.proofs.copy_row.Tie.{the-claims as claims}
 
 pub loop-x-init : goal.loop-x-init
 unfolding with_row

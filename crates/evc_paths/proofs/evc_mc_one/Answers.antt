@@ -1,12 +1,11 @@
 -- `evc_paths::evc_mc_one` meets its contract. The invariant: the first cg columns are written, cg a multiple of 8. Assumes nothing.
-use Prim.Native.Nat.{ℕ, ◌+◌, ◌-◌, ◌*◌, ◌<◌, ◌≤◌}
-use mathlib.Core.Bool.{Bool, true, false, cond}
+use Prim.Native.Nat.{ℕ, ◌+◌, ◌*◌, ◌≤◌}
 use mathlib.Core.Path.{◌≡◌, refl, sym, ap, ◌∙◌}
 use native.Mathlib.Omega.{arith}
 use mathlib.Core.List.{List}
 use lib.ListN.{length}
 use Rattle.evc_int.specs.Lists.{with_block}
-use Rattle.evc_int.proofs.Lists.{columns_none, columns_done, row_fits}
+use Rattle.evc_int.proofs.Lists.{columns_none, columns_done}
 use Rattle.evc_filter.specs.Filter.{interpolated}
 use Rattle.evc_filter.specs.Inner.{single_at, offsets_of}
 use Rattle.evc_blocks.specs.Inner.{Rows}

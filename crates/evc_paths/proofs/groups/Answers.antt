@@ -1,15 +1,11 @@
 -- `evc_paths::groups` meets its contract. The invariant: the first cg columns are written, cg a multiple of 8. Assumes nothing.
-use Prim.Native.Nat.{ℕ, ◌+◌, ◌<◌}
+use Prim.Native.Nat.{ℕ, ◌+◌}
 use mathlib.Core.Path.{refl, sym, ◌∙◌}
 use native.Mathlib.Omega.{arith}
-use lib.ListN.{length}
-use Rattle.evc_int.proofs.Lists.{columns_none, columns_done}
+use Rattle.evc_int.proofs.Lists.{columns_none}
 use Rattle.evc_filter.specs.Filter.{reach, interpolated_twice}
-use Rattle.evc_paths.proofs.Paths.{part_within, group_step, first_row_lem, full}
+use Rattle.evc_paths.proofs.Paths.{part_within, group_step}
 use Rattle.evc_paths.proofs.groups.Goals as goal
-use Rattle.evc_paths.proofs.groups.Lts as place
-use Rattle.evc_paths.proofs.groups.Reads.{Pre, Post}
-use Rattle.evc_paths.proofs.groups.Tie.{the-claims as claims, handed_clauses as clauses}
 
 pub loop-cg-init : goal.loop-cg-init
 loop-cg-init c = let a = c.args in (omega arith, refl, refl, refl, sym (columns_none a.pred.now 0 a.w a.h _))

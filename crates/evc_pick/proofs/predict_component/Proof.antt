@@ -39,7 +39,7 @@ use denote.Triple.Statement.{Contract, Triple}
 use denote.Triple.Call.{calls_at}
 use denote.Triple.Clauses.{ensured, lasts}
 use denote.Triple.Table.{framed}
-use denote.Triple.Walked.{says, Stays, stay_dropped, stay_slice, AllGo, walk_of, Goes-dropped, Goes-slice, ends_at}
+use denote.Triple.Walked.{says, Stays, stay_dropped, stay_slice, walk_of, Goes-dropped, Goes-slice, ends_at}
 use denote.Exit.{yes}
 use denote.Signature.{plain, shr_slice_of}
 use denote.Enum.Laws as EL
@@ -269,8 +269,19 @@ module _ {M : Type 1} {𝓤 : Ura M} (𝓛 : Logic 𝓤) (mem : Memory → SProp
         keep ! (12 ∷ 10 ∷ 11 ∷ 8 ∷ 9 ∷ 6 ∷ 7 ∷ 3 ∷ 4 ∷ 0 ∷ 1 ∷ []) $
         -- [the type; the position; the sides; the plane; both blocks; the choice; the offset; the plane's token; the blocks']
         enter ! C Λ code.function (vt ∷ vp ∷ vint w64 w ∷ vint w64 h ∷ only (shr_slice_vals plane) ∷ only (mut_slice_vals x) ∷ only (mut_slice_vals y) ∷ vbool s ∷ vint w64 k ∷ []) _ $
-        alloc_all ! (λ l. pass_all ! refl (((EL.lawful K.the_type K'.the_laws 𝓛 tt).typed t _ gt).0, (((SL.lawful P.the_type P'.the_laws 𝓛).typed p _ gp).0, ((tt, record { fits = fits_w }), ((tt, record { fits = fits_h }),
-        (((shr_slice_Lawful 𝓛 (named 0) κ₀ u16).typed plane (shr_slice_vals plane) gplane).0, ((tt, (tt, (record { fits = room₀.0 }, tt))), ((tt, (tt, (record { fits = room₁.0 }, tt))), ((tt, tt), ((tt, record { fits = fits_k }), tt))))))))) $
+        alloc_all ! (λ l. pass_all ! refl (
+          ((EL.lawful K.the_type K'.the_laws 𝓛 tt).typed t _ gt).0,
+          (
+            ((SL.lawful P.the_type P'.the_laws 𝓛).typed p _ gp).0,
+            (
+              (tt, record { fits = fits_w }),
+              (
+                (tt, record { fits = fits_h }),
+                (((shr_slice_Lawful 𝓛 (named 0) κ₀ u16).typed plane (shr_slice_vals plane) gplane).0, ((tt, (tt, (record { fits = room₀.0 }, tt))), ((tt, (tt, (record { fits = room₁.0 }, tt))), ((tt, tt), ((tt, record { fits = fits_k }), tt))))),
+              ),
+            ),
+          ),
+        ) $
         sets ! (addr ! (from ! (fld ! refl (hop ! (look_in_at ! 6 (sub ! 0 refl (whole !))) (stop !))))) refl (tt, tt) $
         sets ! (agg ! (and_then ! (get ! refl) (and_then ! (get_in ! (fld ! refl (stop !)) (sub ! 1 refl (whole !))) (no_more !)))) refl (tt, (tt, (record { fits = room₀.0 }, tt))) $
         sets ! (addr ! (from ! (fld ! refl (hop ! (look_in_at ! 7 (sub ! 0 refl (whole !))) (stop !))))) refl (tt, tt) $
@@ -305,8 +316,7 @@ predict_component_spec 𝓤 𝓛 𝓜 𝓡 wired =
     let 𝓣 = tables 𝓤 𝓛.H 𝓜 𝓡 𝓡.env in
     let number = Goes-dropped 𝓛 2 (plain (λ _. usize)) yes (λ κs x f. refl) in
     let block = Goes-slice 𝓛 2 1 tt (plain (λ _. u16)) in
-    proved 𝓛 component.ended stayed (component.clauses 𝓛 𝓜.mem 𝓡.returns) 𝓜 𝓡
-    (
+    proved 𝓛 component.ended stayed (component.clauses 𝓛 𝓜.mem 𝓡.returns) 𝓜 𝓡 (
       Goes-dropped 𝓛 2 (plain (λ _. K.the_row)) yes (λ κs x f. refl),
       (
         Goes-dropped 𝓛 2 (plain (λ _. P.the_row)) yes (λ κs x f. refl),

@@ -9,7 +9,7 @@ use mir.Val.{SFits, to_z, of_z}
 use Rattle.evc_int.specs.Whole.{−◌, ◌⁺, ◌⁻, clip3}
 use Rattle.evc_int.proofs.Whole.{Is, of, nat, is-+, is--, is_neg, parts, abs_of, lt_yes, lt_no, lt_true, lt_false}
 use Rattle.evc_int.proofs.Clipping.{clip3_low, clip3_high, clip3_kept}
-use Rattle.evc_int.proofs.Machine.{arg, uns, is_rd, fit, to_unsigned}
+use Rattle.evc_int.proofs.Machine.{arg, uns, is_rd, fit}
 use Rattle.evc_plane.specs.Planes.{start_at}
 use Rattle.evc_plane.proofs.clamp.Goals as goal
 use Rattle.evc_plane.proofs.clamp.Lts as place

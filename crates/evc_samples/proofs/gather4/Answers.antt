@@ -1,5 +1,4 @@
 use Rattle.evc_samples.proofs.Lanes.{turn4}
-use borrow.Author.Rules.{rules}
 use Rattle.evc_samples.proofs.gather4.Goals as goal
 
 -- src/lib.rt:143:1

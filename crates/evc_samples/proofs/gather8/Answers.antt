@@ -1,5 +1,4 @@
 use Rattle.evc_samples.proofs.Lanes.{turn8}
-use borrow.Author.Rules.{rules}
 use Rattle.evc_samples.proofs.gather8.Goals as goal
 
 -- src/lib.rt:127:1

@@ -1,8 +1,6 @@
 -- `evc_samples::or_row` meets its contract. The invariant: o stands for the first x samples. Assumes nothing.
-use mathlib.Core.Path.{◌≡◌, ap, ◌∙◌}
 use native.Mathlib.Nat.{zero-add}
 use native.Mathlib.Omega.{arith}
-use Rattle.evc_samples.specs.Samples.{row_exceeds}
 use Rattle.evc_samples.proofs.Samples.{row_none, row_more}
 use Rattle.evc_samples.proofs.or_row.Goals as goal
 

@@ -1,16 +1,11 @@
 -- `evc_samples::or_rows` meets its contract. The invariant: o stands for the first y rows. Assumes nothing.
-use Prim.Native.Nat.{ℕ, ◌+◌, ◌-◌, ◌*◌, ◌≤◌}
+use Prim.Native.Nat.{ℕ, ◌+◌, ◌*◌}
 use mathlib.Core.List.{List}
-use mathlib.Core.Path.{◌≡◌, ap, ◌∙◌}
+use mathlib.Core.Path.{ap, ◌∙◌}
 use native.Mathlib.Omega.{arith}
-use lib.ListN.{length, length-drop}
-use Rattle.evc_int.proofs.Lists.{row_fits}
-use Rattle.evc_samples.specs.Samples.{row_exceeds, exceeds}
+use Rattle.evc_samples.specs.Samples.{row_exceeds}
 use Rattle.evc_samples.proofs.Samples.{row_from, rows_none, rows_more}
 use Rattle.evc_samples.proofs.or_rows.Goals as goal
-use Rattle.evc_samples.proofs.or_rows.Lts as place
-use Rattle.evc_samples.proofs.or_rows.Reads.{Pre, Post}
-use Rattle.evc_samples.proofs.or_rows.Tie.{the-claims as claims}
 
 pub loop-y-init : goal.loop-y-init
 loop-y-init c = (omega arith, rows_none _ _ _ _)

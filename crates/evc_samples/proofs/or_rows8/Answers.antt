@@ -1,17 +1,13 @@
 -- `evc_samples::or_rows8` meets its contract. The invariant: the lanes stand for the first y rows. Assumes nothing.
-use Prim.Native.Nat.{ℕ, ◌+◌, ◌*◌, ◌≤◌}
+use Prim.Native.Nat.{ℕ, ◌+◌, ◌*◌}
 use mathlib.Core.Bool.{Bool, ◌||◌}
 use mathlib.Core.Path.{◌≡◌, refl, ap, ◌∙◌}
 use native.Mathlib.Omega.{arith}
-use Rattle.evc_int.proofs.Lists.{row_fits}
 use Rattle.evc_samples.specs.Samples.{too_large, row_exceeds, exceeds}
 use Rattle.evc_samples.specs.Inner.{exceeds8}
 use Rattle.evc_samples.proofs.Samples.{rows_none, rows_more, ends_all}
 use Rattle.evc_samples.proofs.Lanes.{none8}
 use Rattle.evc_samples.proofs.or_rows8.Goals as goal
-use Rattle.evc_samples.proofs.or_rows8.Lts as place
-use Rattle.evc_samples.proofs.or_rows8.Reads.{Pre, Post}
-use Rattle.evc_samples.proofs.or_rows8.Tie.{the-claims as claims}
 
 pub loop-y-init : goal.loop-y-init
 loop-y-init c = (omega arith, none8 ∙ rows_none _ _ _ _)

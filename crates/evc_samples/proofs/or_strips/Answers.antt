@@ -1,8 +1,7 @@
 -- `evc_samples::or_strips` meets its contract. The invariant: o stands for the last sixteen columns and the first x. Assumes nothing.
-use Prim.Native.Nat.{◌+◌, ◌-◌, ◌<◌}
+use Prim.Native.Nat.{◌+◌, ◌-◌}
 use mathlib.Core.Path.{◌∙◌}
 use native.Mathlib.Omega.{arith}
-use Rattle.evc_int.proofs.Lists.{row_fits}
 use Rattle.evc_samples.specs.Samples.{exceeds}
 use Rattle.evc_samples.proofs.Samples.{columns_more, columns_begin, columns_all}
 use Rattle.evc_samples.proofs.or_strips.Goals as goal

@@ -1,5 +1,4 @@
 -- `evc_trace::is_well_formed` meets its contract. Assumes nothing.
-use borrow.Author.Rules.{rules}
 use mathlib.Core.Bool.{Bool, not, ◌&&◌, ◌||◌}
 use mathlib.Core.Path.{◌≡◌}
 use lib.Dec.{leb, eqb}

@@ -1,5 +1,4 @@
 -- `evc_trace::put_header` meets its contract. Assumes nothing.
-use borrow.Author.Rules.{rules}
 use Rattle.evc_bytes.proofs.Written.{joined}
 use Rattle.evc_trace.proofs.Written.{from_start}
 use Rattle.evc_trace.proofs.put_header.Goals as goal

@@ -1,5 +1,4 @@
 -- `evc_trace::put_mark` meets its contract. Assumes nothing.
-use borrow.Author.Rules.{rules}
 use Rattle.evc_bytes.proofs.Written.{joined}
 use Rattle.evc_trace.proofs.put_mark.Goals as goal
 

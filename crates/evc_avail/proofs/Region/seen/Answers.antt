@@ -1,13 +1,10 @@
 -- `evc_avail::Region::seen` meets its contract. Assumes nothing.
-use Rattle.std.proofs.Common.{◌≡◌, ℕ, ◌-◌, ◌≤◌, sym, ap, subst, rules}
+use Rattle.std.proofs.Common.{ℕ, ◌-◌, ◌≤◌, sym, ap, subst, rules}
 use Rattle.evc_avail.specs.Inner.{slice_in, Seen}
 use Rattle.evc_avail.specs.Slices.{max_slice_num}
 use Rattle.evc_avail.specs.declared.Region.{Region}
 use Rattle.evc_avail.proofs.Seen.{picture_seen, slice_seen}
 use Rattle.evc_avail.proofs.Region.seen.Goals as goal
-use Rattle.evc_avail.proofs.Region.seen.Lts as place
-use Rattle.evc_avail.proofs.Region.seen.Reads.{Pre, Post}
-use Rattle.evc_avail.proofs.Region.seen.Tie.{the-claims as claims}
 
 pub returns-in-Picture : goal.returns-in-Picture
 returns-in-Picture c =

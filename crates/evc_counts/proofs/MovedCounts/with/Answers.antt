@@ -4,10 +4,7 @@ use Prim.Native.Nat.{ℕ, ◌+◌, ◌≤◌}
 use native.Mathlib.Omega.{arith}
 use mir.Syntax.{w64}
 use mir.Val.{Fits}
-use Rattle.evc_clip.specs.Clip.{moved_low, moved_high}
-use Rattle.evc_clip.specs.declared.EvcMoved.{EvcMoved}
-use Rattle.evc_counts.specs.Counts.{◌plus◌, one_if, counts_of}
-use Rattle.evc_counts.specs.declared.MovedCounts.{MovedCounts}
+use Rattle.evc_counts.specs.Counts.{one_if}
 use Rattle.evc_counts.proofs.Counts.{one_if_most}
 use Rattle.evc_counts.proofs.MovedCounts.with.Goals as goal
 

@@ -1,9 +1,8 @@
 -- `evc_counts::MovedCounts::with_lists` meets its contract. Assumes nothing.
-use mathlib.Core.Path.{sym, ap, subst, ◌∙◌}
-use Rattle.evc_counts.specs.Counts.{◌plus◌, counts_of}
+use mathlib.Core.Path.{sym, subst}
+use Rattle.evc_counts.specs.Counts.{counts_of}
 use Rattle.evc_counts.specs.Inner.{AtMost}
-use Rattle.evc_counts.specs.declared.MovedCounts.{MovedCounts}
-use Rattle.evc_counts.proofs.Counts.{plus_assoc, plus_most, counts_most}
+use Rattle.evc_counts.proofs.Counts.{plus_most, counts_most}
 use Rattle.evc_counts.proofs.MovedCounts.with_lists.Goals as goal
 
 pub with-requires-2 : goal.with-requires-2

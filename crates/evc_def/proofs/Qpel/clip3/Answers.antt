@@ -1,5 +1,5 @@
 -- `evc_def::Qpel::clip3` meets its contract. Assumes nothing.
-use mathlib.Core.Bool.{true, false}
+use mathlib.Core.Bool.{false}
 use mathlib.Core.Path.{◌≡◌}
 use borrow.Author.Rules.{rules}
 use lib.Signed.{lt_z}
