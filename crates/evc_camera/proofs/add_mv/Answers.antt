@@ -1,7 +1,7 @@
 -- `evc_camera::add_mv` meets its contract. Assumes nothing.
 use mathlib.Core.Bool.{Bool, true, false, cond}
 use mathlib.Core.Path.{◌≡◌, ap, ◌∙◌}
-use Prim.Native.Nat.{ℕ, ◌+◌, ◌≤◌, ◌<◌, ◌^◌}
+use Prim.Native.Nat.{◌+◌}
 use native.Mathlib.Nat.{add-zero}
 use native.Mathlib.Omega.{arith}
 use borrow.Author.Rules.{rules}
@@ -12,7 +12,6 @@ use mir.Facts.{to_z-of_z}
 use Rattle.evc_int.proofs.Machine.{res}
 use Rattle.evc_int.proofs.Whole.{of, nat, is-+, same}
 use Rattle.evc_def.specs.declared.EvcMv.{EvcMv}
-use Rattle.evc_map.specs.Maps.{most_units}
 use Rattle.evc_camera.specs.declared.Sums.{Sums}
 use Rattle.evc_camera.specs.Camera.{with_mv}
 use Rattle.evc_camera.proofs.Units.{sum_fits}

@@ -1,11 +1,7 @@
 -- `evc_camera::add_units` meets its contract. The invariant: the sums are those over the first i units. Assumes nothing.
 use mathlib.Core.Bool.{◌||◌}
-use mathlib.Core.Path.{◌≡◌, ap, subst, ◌∙◌}
 use native.Mathlib.Omega.{arith}
-use Rattle.evc_map.specs.Maps.{most_units}
-use Rattle.evc_camera.specs.Camera.{sums_of}
-use Rattle.evc_camera.specs.Inner.{Within}
-use Rattle.evc_camera.proofs.Units.{counted_at, within_wider, within_more, one_more}
+use Rattle.evc_camera.proofs.Units.{counted_at, within_more, one_more}
 use Rattle.evc_camera.proofs.add_units.Goals as goal
 
 pub loop-i-preserved : goal.loop-i-preserved

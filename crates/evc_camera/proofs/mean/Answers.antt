@@ -1,11 +1,8 @@
 -- `evc_camera::mean` meets its contract: f64 holds both numbers whole. Assumes nothing.
-use Prim.Native.Nat.{ℕ, ◌*◌, ◌<◌, ◌≤◌, ◌^◌}
-use native.Mathlib.Nat.{le_trans, mul-le-mul}
+use Prim.Native.Nat.{◌*◌, ◌<◌, ◌≤◌, ◌^◌}
 use native.Mathlib.Omega.{arith}
-use lib.Dec.{T, le→leb, lt→ltb}
 use lib.IntN.{ℤ, pos, negsuc, nat_abs}
 use lib.Signed.{mag}
-use lib.Ieee.{binary64, in_float}
 use mir.Facts.{to_z-of_z}
 use Rattle.evc_map.specs.Maps.{most_units}
 use Rattle.evc_camera.proofs.Once.{once}
