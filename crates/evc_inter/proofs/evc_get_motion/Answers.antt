@@ -1,5 +1,5 @@
 -- `evc_inter::evc_get_motion` meets its contract: what `found_motion` gives over a record of zeros, stored over the record lent. Assumes nothing.
-use Rattle.std.proofs.Common.{◌≡◌, ℕ, Bool, true, false, cond, List, [], ◌∷◌, ℤ, pos, eqb, sym, refl, ap, ◌∙◌, ne_eqb, eq-eqb}
+use Rattle.std.proofs.Common.{◌≡◌, ℕ, Bool, true, false, cond, List, [], ◌∷◌, ℤ, pos, sym, refl, ap, ◌∙◌, ne_eqb, eq-eqb}
 use Rattle.evc_def.specs.declared.EvcBlock.{EvcBlock}
 use Rattle.evc_def.specs.declared.EvcMv.{EvcMv}
 use Rattle.evc_motion.specs.Candidates.{candidates, get_motion}

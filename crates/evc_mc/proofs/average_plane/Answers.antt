@@ -1,12 +1,12 @@
 -- `evc_mc::average_plane` meets its contract. The invariant: the first i samples are averaged. Assumes nothing.
-use Prim.Native.Nat.{ℕ, ◌+◌, ◌-◌, ◌<◌, ◌≤◌}
+use Prim.Native.Nat.{ℕ, ◌+◌, ◌<◌, ◌≤◌}
 use mathlib.Core.List.{List}
 use mathlib.Core.Logic.{inr}
 use mathlib.Core.Path.{◌≡◌, refl, ap, ◌∙◌}
 use native.Mathlib.Omega.{arith}
 use lib.ListN.{length-set, get_or}
 use Rattle.evc_int.specs.Lists.{with_row}
-use Rattle.evc_int.proofs.Lists.{row_step, row_done, with_row-out}
+use Rattle.evc_int.proofs.Lists.{row_step, with_row-out}
 use Rattle.evc_mc.specs.Block.{average}
 use Rattle.evc_mc.proofs.average_plane.Goals as goal
 use Rattle.evc_mc.proofs.average_plane.Lts as place

@@ -1,15 +1,11 @@
 -- `evc_record::copy_block` meets its contract. The invariant: the first y rows are written. Assumes nothing.
-use Prim.Native.Nat.{◌+◌, ◌-◌, ◌*◌, ◌<◌, ◌≤◌}
+use Prim.Native.Nat.{◌+◌, ◌*◌}
 use mathlib.Core.Path.{refl, ◌∙◌}
 use native.Mathlib.Omega.{arith}
-use lib.ListN.{length, length-drop}
 use Rattle.evc_int.specs.Lists.{with_block}
-use Rattle.evc_int.proofs.Lists.{row_fits, block_step, block_done}
+use Rattle.evc_int.proofs.Lists.{block_step}
 use Rattle.evc_record.proofs.Places.{row_copied}
 use Rattle.evc_record.proofs.copy_block.Goals as goal
-use Rattle.evc_record.proofs.copy_block.Lts as place
-use Rattle.evc_record.proofs.copy_block.Reads.{Pre, Post}
-use Rattle.evc_record.proofs.copy_block.Tie.{the-claims as claims}
 
 pub loop-y-init : goal.loop-y-init
 unfolding with_block

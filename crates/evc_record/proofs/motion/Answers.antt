@@ -1,5 +1,4 @@
 -- `evc_record::motion` meets its contract. Assumes nothing.
-use borrow.Author.Rules.{rules}
 use mathlib.Core.Bool.{Bool}
 use mathlib.Core.List.{List}
 use mathlib.Core.Path.{◌≡◌, ap₂, ◌∙◌}

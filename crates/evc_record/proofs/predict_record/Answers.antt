@@ -1,5 +1,4 @@
 -- `evc_record::predict_record` meets its contract. Assumes nothing.
-use borrow.Author.Rules.{rules}
 use Rattle.evc_record.proofs.Steps.{predicted}
 use Rattle.evc_record.proofs.predict_record.Goals as goal
 

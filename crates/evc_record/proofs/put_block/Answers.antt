@@ -1,5 +1,4 @@
 -- `evc_record::put_block` meets its contract. Assumes nothing.
-use borrow.Author.Rules.{rules}
 use mathlib.Core.Path.{refl}
 use native.Mathlib.Omega.{arith}
 use Rattle.evc_mc.specs.Block.{luma, cb, cr}

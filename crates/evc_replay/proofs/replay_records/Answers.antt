@@ -1,7 +1,7 @@
 -- `evc_replay::replay_records` meets its contract. The invariant: what is left of the records, applied to the target as it is, gives what all of them
 -- give; and so do their counts, added to those so far. Assumes nothing.
 use mathlib.Core.Path.{◌≡◌, refl, sym, ap, subst, ◌∙◌}
-use Prim.Native.Nat.{◌+◌, ◌-◌, ◌*◌, ◌<◌, ◌≤◌}
+use Prim.Native.Nat.{◌+◌, ◌*◌, ◌<◌, ◌≤◌}
 use native.Mathlib.Omega.{arith}
 use lib.ListN.{length}
 use Rattle.evc_mc.specs.declared.EvcPredicted.{EvcPredicted}
