@@ -1,4 +1,4 @@
--- Document 02, W5: what the flags of a block of a slice depend on, and what candidates come of them. Each statement speaks of `getAvailInterSlice`, which
+-- Document 02, W5: what the flags of a block of a slice depend on, and what candidates come of them. Each statement speaks of `get_avail_inter_slice`, which
 -- the call's contract equates its answer with. proofs/SliceLaws proves them.
 use Rattle.std.specs.Prelude.{Bool, true, false, cond, List, [], ◌∷◌, map, ◌⊎◌, ◌≡◌, ℕ, ◌≤◌, ◌<◌, ℤ, length}
 use Rattle.evc_def.specs.declared.EvcBlock.{EvcBlock}

@@ -1,4 +1,4 @@
--- Document 02, W4: its example, what the reading depends on, and the flipped reel. Each statement speaks of `cameraMotion`, which the call's contract
+-- Document 02, W4: its example, what the reading depends on, and the flipped reel. Each statement speaks of `camera_motion`, which the call's contract
 -- equates its answer with. proofs/CameraLaws proves them.
 use Rattle.std.specs.Prelude.{true, false, cond, ◌&&◌, ◌≡◌, ℕ, zero, suc, ◌+◌, ◌*◌, ◌/◌, ◌<◌, ◌≤◌, T, ℤ, pos, negsuc, neg_ℤ, nat_abs, length, get_or, Float}
 use mathlib.Core.List.{List, [], ◌∷◌, map, Permᴰ}

@@ -1,4 +1,4 @@
--- Document 02, W2: "replay as four counts .. over the finished records, refused or not". Each statement speaks of `replayedCounts`, which the call's contract
+-- Document 02, W2: "replay as four counts .. over the finished records, refused or not". Each statement speaks of `replayed_counts`, which the call's contract
 -- equates its counts with. proofs/Counts proves them.
 use Rattle.std.specs.Prelude.{Bool, List, ◌++◌, ◌≡◌, ℕ, ℤ, take}
 use Rattle.evc_counts.specs.Counts.{◌plus◌}
