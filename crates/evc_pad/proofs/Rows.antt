@@ -1,4 +1,4 @@
--- Rows of a plane replaced (`withBlock`): what stands beside them in other columns; equality row by row. Assumes nothing.
+-- Rows of a plane replaced (`with_block`): what stands beside them in other columns; equality row by row. Assumes nothing.
 use Prim.Native.Nat.{ℕ, zero, suc, ◌+◌, ◌*◌, ◌/◌, ◌%◌, ◌<◌, ◌≤◌}
 use mathlib.Core.Bool.{Bool, true, false}
 use mathlib.Core.Path.{◌≡◌, refl, sym, ap, ◌∙◌}

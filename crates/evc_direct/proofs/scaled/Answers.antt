@@ -1,4 +1,4 @@
--- `evc_direct::scaled` meets its contract: the product is at most maxPoc * 32768, and the quotient no larger. Assumes nothing.
+-- `evc_direct::scaled` meets its contract: the product is at most max_poc * 32768, and the quotient no larger. Assumes nothing.
 use mathlib.Core.Path.{◌∙◌}
 use lib.Dec.{lit<}
 use lib.IntN.{◌*ℤ◌}

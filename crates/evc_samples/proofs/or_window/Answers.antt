@@ -3,4 +3,4 @@ use native.Mathlib.Omega.{arith}
 use Rattle.evc_samples.proofs.or_window.Goals as goal
 
 pub or_rows4-requires : goal.or_rows4-requires
-or_rows4-requires c = let p = c.requires in (p.0, p.1, (let t = c.if-n-le8.true in omega arith))
+or_rows4-requires c = let p = c.requires in (p.0, p.1, omega arith)
