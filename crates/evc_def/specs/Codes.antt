@@ -14,6 +14,10 @@ unfoldable pub first_of : List Check → ℕ
 first_of [] = 0
 first_of (n when refuses ∷ checks) = cond refuses n (first_of checks)
 
+-- the check that every call on a picture begins with
+abbrev pub picture_checks : ℕ → ℕ → List Check
+picture_checks W H = 1 when bad_picture W H ∷ []
+
 -- the checks that every call on a block begins with
 abbrev pub block_checks : EvcBlock → List Check
 block_checks b = 1 when bad_picture b.pic_w b.pic_h ∷ 2 when bad_block b ∷ []

@@ -1,4 +1,5 @@
 pub mod Blocks
 pub mod Codes
 pub mod Places
+pub mod Refusals
 pub mod Tables

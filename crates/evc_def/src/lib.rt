@@ -7,8 +7,13 @@ ghost use Rattle.std.proofs.Common.{SFits};
 ghost use Rattle.evc_int.specs.Whole.{◌modulo◌, clip3};
 ghost use Rattle.evc_def.specs.Blocks.{is_picture_side, is_block_side, bad_picture, bad_block};
 ghost use Rattle.evc_def.specs.Codes.{first_of, block_checks};
-ghost use Rattle.evc_def.specs.Places.{is_same};
 ghost use Rattle.evc_def.specs.Tables.{tbl_cu_dim_offset, is_bit, is_coded, is_intra, slice_num};
+
+pub mod accepted;
+pub mod refusal;
+
+pub use accepted::{Block, Picture, Span};
+pub use refusal::Refusal;
 
 // ---- def.rs: numbers
 
@@ -117,10 +122,10 @@ pub fn cu_dim_offset(c: usize) -> usize
 #[derive(Clone, Copy)]
 pub struct Pel(pub i32);
 // A position in quarter samples.
-#[derive(Clone, Copy)]
+#[derive(Clone, Copy, PartialEq, Eq)]
 pub struct Qpel(pub i32);
 // A place in a reference picture, across and down: qpel_gmv_x and qpel_gmv_y of the Rust.
-#[derive(Clone, Copy)]
+#[derive(Clone, Copy, PartialEq, Eq)]
 pub struct QpelPlace {
     pub x: Qpel,
     pub y: Qpel,
@@ -163,13 +168,6 @@ impl Scu {
 }
 
 impl Qpel {
-    // A component as a call passes it.
-    pub fn new(z: i16) -> Qpel
-        ensures { result.0 ≡ z }
-    {
-        Qpel(z as i32)
-    }
-
     // The whole sample at or before the position, and the quarters from there on.
     pub fn pel(self) -> Pel
         ensures { result.0 ≡ shr_z self.0 4 }
@@ -225,18 +223,19 @@ impl Qpel {
     }
 }
 
-impl QpelPlace {
-    pub fn is_same(self, other: QpelPlace) -> bool
-        ensures { result ≡ is_same self other }
-    {
-        (self.x.0 == other.x.0) & (self.y.0 == other.y.0)
+// A component as a call passes it.
+impl From<i16> for Qpel {
+    ghost from_gives = { λ z q. q.0 ≡ z };
+
+    fn from(z: i16) -> Qpel {
+        Qpel(z as i32)
     }
 }
 
 // ---- what a call takes
 
 #[repr(C)]
-#[derive(Clone, Copy)]
+#[derive(Clone, Copy, Default, PartialEq, Eq)]
 pub struct EvcMv {
     pub x: i16,
     pub y: i16,
