@@ -1,6 +1,6 @@
 //! Pictures and blocks that the checks accept.
 
-ghost use Rattle.std.specs.Prelude.{◌≡◌, false};
+ghost use Rattle.std.specs.Prelude.{◌≡◌, ◌≤◌, false};
 ghost use Rattle.evc_def.specs.Blocks.{bad_picture, Allowed};
 
 use super::{EvcBlock, Refusal};
@@ -11,6 +11,8 @@ pub struct Picture {
     pub w: u32,
     pub h: u32,
     pub ghost accepted: { bad_picture w h ≡ false },
+    pub ghost width: { w ≤ 8128 },
+    pub ghost height: { h ≤ 8128 },
 }
 
 impl Picture {

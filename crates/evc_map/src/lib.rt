@@ -1,9 +1,9 @@
 #![tactic(auto)]
 
 ghost use Rattle.std.specs.Prelude.{◌≡◌, ◌+◌, ◌*◌, ◌/◌, ◌<◌, ◌≤◌, ◌^◌, length, get_or, pos};
-ghost use Rattle.evc_map.specs.Maps.{units_of, most_units, unit_at, word_at, words_short, mv_len, mv_at, map_short};
+ghost use Rattle.evc_map.specs.Maps.{units_of, most_units, scup, word_at, words_short, mv_len, mv_at, map_short};
 
-use evc_def::{EvcMv, MCU, Pel, Scu};
+use evc_def::{Block, EvcMv, MCU, Pel, Picture, Scu};
 
 // ---- units
 
@@ -16,19 +16,17 @@ pub fn scu(samples: u32) -> Scu
 }
 
 // How many units a picture has.
-pub fn unit_count(pic_w: u32, pic_h: u32) -> Scu
-    requires { (pic_w ≤ 8128) × (pic_h ≤ 8128) }
-    ensures { (result.0 ≡ units_of pic_w pic_h) × (result.0 ≤ most_units) }
+pub fn unit_count(pic: Picture) -> Scu
+    ensures { (result.0 ≡ units_of pic.w pic.h) × (result.0 ≤ most_units) }
 {
-    Scu(scu(pic_w).0 * scu(pic_h).0)
+    Scu(scu(pic.w).0 * scu(pic.h).0)
 }
 
-// The unit that holds the sample at x and y.
-pub fn unit_at(pic_w: u32, x: u32, y: u32) -> Scu
-    requires { (pic_w ≤ 8128) × (x ≤ 8128) × (y ≤ 8128) }
-    ensures { result.0 ≡ unit_at pic_w x y }
+// The block's first unit.
+pub fn first_unit(b: Block) -> Scu
+    ensures { result.0 ≡ scup b.given }
 {
-    Scu(scu(y).0 * scu(pic_w).0 + scu(x).0)
+    Scu(scu(b.given.y).0 * scu(b.given.pic_w).0 + scu(b.given.x).0)
 }
 
 // ---- unit words
@@ -42,11 +40,10 @@ pub fn mcu_at(map_scu: &[u32], scup: Scu) -> MCU
 }
 
 // As many words are too few for the picture.
-pub fn words_short(pic_w: u32, pic_h: u32, words: usize) -> bool
-    requires { (pic_w ≤ 8128) × (pic_h ≤ 8128) }
-    ensures { result ≡ words_short pic_w pic_h words }
+pub fn words_short(pic: Picture, words: usize) -> bool
+    ensures { result ≡ words_short pic.w pic.h words }
 {
-    words < unit_count(pic_w, pic_h).index()
+    words < unit_count(pic).index()
 }
 
 // ---- motion maps
@@ -73,9 +70,8 @@ pub fn mv_at(map_mv: &[i16], scup: Scu, lidx: usize) -> EvcMv
 }
 
 // A map of this length is too short for the picture.
-pub fn map_short(pic_w: u32, pic_h: u32, map_mv: usize) -> bool
-    requires { (pic_w ≤ 8128) × (pic_h ≤ 8128) }
-    ensures { result ≡ map_short pic_w pic_h map_mv }
+pub fn map_short(pic: Picture, map_mv: usize) -> bool
+    ensures { result ≡ map_short pic.w pic.h map_mv }
 {
-    map_mv < MAP_MV_LEN * unit_count(pic_w, pic_h).index()
+    map_mv < MAP_MV_LEN * unit_count(pic).index()
 }

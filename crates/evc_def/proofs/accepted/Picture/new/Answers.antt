@@ -1,7 +1,14 @@
 -- `Picture::new` meets its contract. Assumes nothing.
 use mathlib.Core.Path.{sym, ◌∙◌}
+use Rattle.evc_def.proofs.Blocks.{picture_sides}
 use Rattle.evc_def.proofs.Codes.{refused, passed, none}
 use Rattle.evc_def.proofs.accepted.Picture.new.Goals as goal
+
+pub invariant_of-result : goal.invariant_of-result
+invariant_of-result c =
+    let e = sym c.bad_picture.ensures ∙ c.if-bad_picture.false in
+    let s = picture_sides _ _ e in
+    record { accepted = e; width = s.0.top; height = s.1.top }
 
 pub returns-then-bad_picture-clause-code : goal.returns-then-bad_picture-clause-code
 returns-then-bad_picture-clause-code c = sym (refused _ _ _ (sym c.bad_picture.ensures ∙ c.if-bad_picture.true))
