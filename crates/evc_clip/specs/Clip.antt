@@ -1,5 +1,5 @@
 -- Document 01, 'Clipping'.
-use Rattle.std.specs.Prelude.{cond, ◌≡◌, ℕ, eqb, ℤ, pos, ◌+ℤ◌, ◌-ℤ◌, ◌*ℤ◌}
+use Rattle.std.specs.Prelude.{cond, ◌≡◌, ℕ, eqb, ℤ, pos, ◌+ℤ◌, ◌-ℤ◌, ◌*ℤ◌, Result, Ok, Err}
 use Rattle.std.specs.Int.Signed.{lt_z}
 use Rattle.evc_int.specs.Whole.{−◌}
 use Rattle.evc_def.specs.Codes.{first_of, block_checks, zero_mv}
@@ -7,8 +7,13 @@ use Rattle.evc_def.specs.Places.{qpel_place}
 use Rattle.evc_def.specs.declared.EvcBlock.{EvcBlock}
 use Rattle.evc_def.specs.declared.EvcMv.{EvcMv}
 use Rattle.evc_def.specs.declared.QpelPlace.{QpelPlace}
+use Rattle.evc_def.specs.declared.refusal.Refusal.{Refusal}
+use Rattle.evc_def.specs.Refusals as refusal
+use Rattle.evc_clip.specs.declared.Clipped.{Clipped}
 use Rattle.evc_clip.specs.declared.EvcClipped.{EvcClipped}
 use Rattle.evc_clip.specs.declared.EvcMoved.{EvcMoved}
+use Rattle.evc_clip.specs.declared.Moved.{Moved}
+use Rattle.evc_clip.specs.declared.Moved.TheVariants.{No, Low, High}
 
 -- how many samples past the picture's last one a block's last one may lie, MAX_CU_SIZE of the Rust: "4(W - 1 + 64)"
 abbrev pub margin : ℕ
@@ -24,6 +29,11 @@ moved_low = 1
 
 abbrev pub moved_high : ℕ
 moved_high = 2
+
+abbrev pub number_of : Moved → ℕ
+number_of No = not_moved
+number_of Low = moved_low
+number_of High = moved_high
 
 -- the side that faces it, and 0 for 0
 abbrev pub other_side : ℕ → ℕ
@@ -87,6 +97,11 @@ mv_clip b mv =
       mv = cond (eqb code 0) (clip_mv b mv) zero_mv;
       moved = cond (eqb code 0) (moved_mv b mv) nothing_moved;
     }
+
+-- an answer as the call returns it
+abbrev pub answer_of : Result Clipped Refusal → EvcClipped
+answer_of (Ok c) = record { code = 0; mv = c.mv; moved = c.moved }
+answer_of (Err r) = record { code = refusal.number_of r; mv = zero_mv; moved = nothing_moved }
 
 -- 'Edges to try': the lines on clipping, with their reports
 abbrev pub ClipEdges : Type 0

@@ -15,8 +15,8 @@ use Rattle.evc_clip.proofs.clip_component.Goals as goal
 vector : (x : ℕ) (mv p a g : ℤ) → p ≡ pos x → a ≡ pos 4 *ℤ p → g ≡ place_of x mv → g -ℤ a ≡ mv
 vector x mv p a g ep ea eg = rw (eg, ea, ep) (solve ((! (pos 4) ⊗ ! (pos x) ⊕ ! mv) ⊖ ! (pos 4) ⊗ ! (pos x)) (! mv) (omega arith))
 
-leads : (c : goal.After-qpel_gmv) → c.qpel_gmv.result.0 -ℤ c.qpel.result.0 ≡ clip_component c.args.pic c.args.place c.args.side c.args.mv
+leads : (c : goal.After-qpel_gmv) → c.qpel_gmv.result.0 -ℤ c.qpel.result.0 ≡ clip_component c.args.s.size c.args.s.place c.args.s.side c.args.mv
 leads c = vector _ _ _ _ _ c.new.ensures c.qpel.ensures (simp (to_z-of_z c.ranges.mv) at c.qpel_gmv.ensures)
 
 pub mv_to-requires : goal.mv_to-requires
-mv_to-requires c = subst (SFits w16) (sym (leads c)) (clipped_fits _ _ _ _ c.requires c.ranges.mv)
+mv_to-requires c = subst (SFits w16) (sym (leads c)) (clipped_fits _ _ _ _ c.args.s.allowed c.ranges.mv)

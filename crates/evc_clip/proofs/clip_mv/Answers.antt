@@ -12,13 +12,10 @@ use Rattle.evc_clip.specs.Clip.{clip_component, clip_mv}
 use Rattle.evc_clip.proofs.clip_mv.Goals as goal
 use Rattle.evc_clip.proofs.clip_mv.Lts as place
 use Rattle.evc_clip.proofs.clip_mv.Reads.{Pre, Post}
-use Rattle.evc_clip.proofs.clip_mv.Tie.{the-claims as claims, handed_clauses as clauses}
+use Rattle.evc_clip.proofs.clip_mv.Tie.{the-claims as claims}
 
-x_fits : (c : place.After-struct_told claims Pre Post clauses) → SFits w16 c.args.mv.x
-x_fits c = search rules
-
-y_fits : (c : place.After-struct_told2 claims Pre Post clauses) → SFits w16 c.args.mv.y
-y_fits c = search rules
+fits : (s : place.Start claims Pre Post) → SFits w16 s.args.mv.x × SFits w16 s.args.mv.y
+fits s = (search rules, search rules)
 
 -- the record that is made is the one that the definition names
 made : (b : EvcBlock) (mv : EvcMv) (x y : ℤ) → x ≡ clip_component b.pic_w b.x b.w mv.x → y ≡ clip_component b.pic_h b.y b.h mv.y → record { x = x; y = y } ≡ clip_mv b mv
@@ -28,5 +25,5 @@ made b mv x y p q = simp (p, q)
 pub returns : goal.returns
 returns c =
     made _ _ _ _
-    (res w16 c.clip_component.type_inv ∙ (simp (to_z-of_z (x_fits c.before.before.before)) at c.clip_component.ensures))
-    (res w16 c.clip_component-2.type_inv ∙ (simp (to_z-of_z (y_fits c.before)) at c.clip_component-2.ensures))
+    (res w16 c.clip_component.type_inv ∙ (simp (to_z-of_z (fits c.before.before.before.before.before.before).0, c.across.ensures.0, c.across.ensures.1, c.across.ensures.2) at c.clip_component.ensures))
+    (res w16 c.clip_component-2.type_inv ∙ (simp (to_z-of_z (fits c.before.before.before.before.before.before).1, c.down.ensures.0, c.down.ensures.1, c.down.ensures.2) at c.clip_component-2.ensures))

@@ -11,9 +11,9 @@ use Rattle.evc_clip.specs.Clip.{place_of, clip_component, clip_mv, clipped_place
 use Rattle.evc_clip.proofs.clipped_place.Goals as goal
 use Rattle.evc_clip.proofs.clipped_place.Lts as place
 use Rattle.evc_clip.proofs.clipped_place.Reads.{Pre, Post}
-use Rattle.evc_clip.proofs.clipped_place.Tie.{the-claims as claims, handed_clauses as clauses}
+use Rattle.evc_clip.proofs.clipped_place.Tie.{the-claims as claims}
 
-fits : (s : place.Start claims Pre Post clauses) → SFits w16 s.args.mv.x × SFits w16 s.args.mv.y
+fits : (s : place.Start claims Pre Post) → SFits w16 s.args.mv.x × SFits w16 s.args.mv.y
 fits s = (search rules, search rules)
 
 -- the pair that is made is the one that the definition names
@@ -23,4 +23,4 @@ made b mv x y p q = rw (p, q)
 
 pub returns : goal.returns
 returns c =
-    made _ _ _ _ (simp (to_z-of_z (fits c.before.before.before.before).0) at c.qpel_gmv.ensures) (simp (to_z-of_z (fits c.before.before.before.before).1) at c.qpel_gmv-2.ensures)
+    made _ _ _ _ (simp (to_z-of_z (fits c.before.before.before.before.before.before).0, c.across.ensures.0, c.across.ensures.1, c.across.ensures.2) at c.qpel_gmv.ensures) (simp (to_z-of_z (fits c.before.before.before.before.before.before).1, c.down.ensures.0, c.down.ensures.1, c.down.ensures.2) at c.qpel_gmv-2.ensures)

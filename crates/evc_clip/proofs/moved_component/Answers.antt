@@ -14,11 +14,11 @@ use Rattle.evc_clip.proofs.moved_component.Lts as place
 use Rattle.evc_clip.proofs.moved_component.Reads.{Pre, Post}
 use Rattle.evc_clip.proofs.moved_component.Tie.{the-claims as claims}
 
-exact : (c : place.After-qpel_gmv claims Pre Post) → let a = c.args in c.moved-exact.result.0 ≡ place_of a.place a.mv
+exact : (c : place.After-qpel_gmv claims Pre Post) → let a = c.args in c.moved-exact.result.0 ≡ place_of a.s.place a.mv
 exact c =
     (simp (to_z-of_z c.ranges.mv) at c.moved-exact.ensures) ∙ ap (λ (z : ℤ). z +ℤ c.args.mv) (c.qpel.ensures ∙ ap (λ (z : ℤ). pos 4 *ℤ z) c.new.ensures)
 
-clipped : (c : place.After-qpel_gmv claims Pre Post) → let a = c.args in c.qpel_gmv-gmv.result.0 ≡ place_of a.place (clip_component a.pic a.place a.side a.mv)
+clipped : (c : place.After-qpel_gmv claims Pre Post) → let a = c.args in c.qpel_gmv-gmv.result.0 ≡ place_of a.s.place (clip_component a.s.size a.s.place a.s.side a.mv)
 clipped c = simp (to_z-of_z c.ranges.mv) at c.qpel_gmv-gmv.ensures
 
 exact_fits : (c : place.After-struct_told2 claims Pre Post) → SFits w32 c.moved-exact.result.0

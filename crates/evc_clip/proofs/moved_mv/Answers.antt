@@ -1,5 +1,5 @@
 -- `evc_clip::moved_mv` meets its contract. Assumes nothing.
-use mathlib.Core.Path.{◌≡◌}
+use mathlib.Core.Path.{◌≡◌, refl, ◌∙◌}
 use Prim.Native.Nat.{ℕ}
 use borrow.Author.Rules.{rules}
 use mir.Facts.{to_z-of_z}
@@ -7,20 +7,29 @@ use mir.Syntax.{w16}
 use mir.Val.{SFits}
 use Rattle.evc_def.specs.declared.EvcBlock.{EvcBlock}
 use Rattle.evc_def.specs.declared.EvcMv.{EvcMv}
-use Rattle.evc_clip.specs.Clip.{moved_component, moved_mv}
+use denote.Enum.Declared.{tag_of}
+use Rattle.evc_clip.specs.Clip.{number_of, moved_component, moved_mv}
+use Rattle.evc_clip.specs.contracts.Moved.{the_type}
+use Rattle.evc_clip.specs.declared.Moved.{Moved}
+use Rattle.evc_clip.specs.declared.Moved.TheVariants.{No, Low, High}
 use Rattle.evc_clip.proofs.moved_mv.Goals as goal
 use Rattle.evc_clip.proofs.moved_mv.Lts as place
 use Rattle.evc_clip.proofs.moved_mv.Reads.{Pre, Post}
-use Rattle.evc_clip.proofs.moved_mv.Tie.{the-claims as claims, handed_clauses as clauses}
+use Rattle.evc_clip.proofs.moved_mv.Tie.{the-claims as claims}
 
-fits : (s : place.Start claims Pre Post clauses) → SFits w16 s.args.mv.x × SFits w16 s.args.mv.y
+fits : (s : place.Start claims Pre Post) → SFits w16 s.args.mv.x × SFits w16 s.args.mv.y
 fits s = (search rules, search rules)
 
 -- the record that is made is the one that the definition names
+by_number : (m : Moved) → tag_of the_type m ≡ number_of m
+by_number No = refl
+by_number Low = refl
+by_number High = refl
+
 made : (b : EvcBlock) (mv : EvcMv) (x y : ℕ) → x ≡ moved_component b.pic_w b.x b.w mv.x → y ≡ moved_component b.pic_h b.y b.h mv.y → record { x = x; y = y } ≡ moved_mv b mv
 unfolding moved_mv
 made b mv x y p q = rw (p, q)
 
 pub returns : goal.returns
 returns c =
-    made _ _ _ _ (simp (to_z-of_z (fits c.before.before.before.before).0) at c.moved_component.ensures) (simp (to_z-of_z (fits c.before.before.before.before).1) at c.moved_component-2.ensures)
+    made _ _ _ _ (by_number _ ∙ simp (to_z-of_z (fits c.before.before.before.before.before.before).0, c.across.ensures.0, c.across.ensures.1, c.across.ensures.2) at c.moved_component.ensures) (by_number _ ∙ simp (to_z-of_z (fits c.before.before.before.before.before.before).1, c.down.ensures.0, c.down.ensures.1, c.down.ensures.2) at c.moved_component-2.ensures)

@@ -1,35 +1,31 @@
 -- `evc_clip::mv_clip` meets its contract: refused with zeros, or clipped. Assumes nothing.
-use mathlib.Core.Path.{◌≡◌, sym, ◌∙◌}
+use mathlib.Core.Path.{◌≡◌, sym}
 use borrow.Author.Tests.{ne_eqb}
-use Prim.Native.Nat.{ℕ}
-use Rattle.evc_def.specs.Codes.{first_of, block_checks, zero_mv}
+use Rattle.std.proofs.Common.{Err}
+use Rattle.std.proofs.lemmas.Result.{err_from_is_err_and}
+use Rattle.evc_def.specs.Codes.{first_of, block_checks}
+use Rattle.evc_def.specs.Refusals.{number_of}
 use Rattle.evc_def.specs.declared.EvcBlock.{EvcBlock}
 use Rattle.evc_def.specs.declared.EvcMv.{EvcMv}
-use Rattle.evc_def.proofs.Blocks.{allowed_block}
-use Rattle.evc_clip.specs.Clip.{clip_mv, moved_mv, nothing_moved, mv_clip}
+use Rattle.evc_def.specs.declared.refusal.Refusal.{Refusal}
+use Rattle.evc_def.proofs.Refusals.{not_0}
+use Rattle.evc_clip.specs.Clip.{clip_mv, moved_mv, mv_clip, answer_of}
 use Rattle.evc_clip.specs.declared.EvcMoved.{EvcMoved}
 use Rattle.evc_clip.proofs.mv_clip.Goals as goal
 
 module _ (b : EvcBlock) (mv : EvcMv) where
-  refusal : (code : ℕ) (m : EvcMoved) → code ≡ first_of (block_checks b) → (code ≡ 0 → ⊥) → m ≡ nothing_moved → record { code = code; mv = zero_mv; moved = m } ≡ mv_clip b mv
+  refusal : (r : Refusal) → number_of r ≡ first_of (block_checks b) → answer_of (Err r) ≡ mv_clip b mv
   unfolding mv_clip
-  refusal code m e n q = rw (sym e, ne_eqb code 0 n, q)
+  refusal r e = rw (sym e, ne_eqb (number_of r) 0 (not_0 r))
 
-  done : (r : EvcMv) (m : EvcMoved) → first_of (block_checks b) ≡ 0 → r ≡ clip_mv b mv → m ≡ moved_mv b mv → record { code = 0; mv = r; moved = m } ≡ mv_clip b mv
+  done : (b' : EvcBlock) (r : EvcMv) (m : EvcMoved) → b' ≡ b → 0 ≡ first_of (block_checks b) → r ≡ clip_mv b' mv → m ≡ moved_mv b' mv → record { code = 0; mv = r; moved = m } ≡ mv_clip b mv
   unfolding mv_clip
-  done r m e p q = rw (e, p, q)
+  done b' r m s e p q = rw (sym e, p, q, s)
 
-pub returns-then-code-ne0 : goal.returns-then-code-ne0
-returns-then-code-ne0 c = refusal _ _ _ _ c.block_code-code.ensures c.if-code-ne0.true c.nothing_moved.ensures
-
-accepted : (c : goal.Else-code-ne0) → first_of (block_checks c.args.block) ≡ 0
-accepted c = sym c.block_code-code.ensures ∙ c.if-code-ne0.false
-
-pub clip_mv-requires : goal.clip_mv-requires
-clip_mv-requires c = let parts = allowed_block _ (accepted c) in record { allowed = parts.0; allowed_2 = parts.1 }
-
-pub moved_mv-requires : goal.moved_mv-requires
-moved_mv-requires c = let parts = allowed_block _ (accepted c.before) in record { allowed = parts.0; allowed_2 = parts.1 }
+pub returns-in_err-b : goal.returns-in_err-b
+returns-in_err-b c =
+    let p = err_from_is_err_and c.from_residual.result c.from_residual.ensures.1 in
+    rw (p.1, p.2) (refusal _ _ _ c.in_err-b.ensures.code)
 
 pub returns : goal.returns
-returns c = done _ _ _ _ (accepted c.before.before) c.clip_mv.ensures c.moved_mv.ensures
+returns c = done _ _ _ _ _ c.in_ok-b.ensures.value c.in_ok-b.ensures.code c.clip_mv.ensures c.moved_mv.ensures

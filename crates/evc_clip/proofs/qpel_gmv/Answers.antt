@@ -21,5 +21,5 @@ place W x w n mv lo p q a m g ok ep ea eq en em el eg =
 
 pub returns : goal.returns
 returns c =
-    place _ _ _ _ _ _ _ _ _ _ _ c.requires c.new-2.ensures c.qpel.ensures c.new.ensures (omega arith) c.qpel-max_clip.ensures refl
+    place _ _ _ _ _ _ _ _ _ _ _ c.args.s.allowed c.new-2.ensures c.qpel.ensures c.new.ensures (omega arith) c.qpel-max_clip.ensures refl
     (c.clip3.ensures ∙ ap (λ (z : ℤ). clip3 _ c.qpel-max_clip.result.0 z) (simp (to_z-of_z c.ranges.mv) at c.moved.ensures))
