@@ -1,6 +1,7 @@
 -- Document 01, 'What a call gives': "unit words, one for each 4 by 4 unit; a motion map, four signed 16-bit numbers a unit (list 0 across, down, list 1
 -- across, down); words and both maps row by row over the whole picture".
-use Rattle.std.specs.Prelude.{Bool, List, ℕ, ◌+◌, ◌*◌, ◌/◌, ltb, ℤ, pos, get_or}
+use Rattle.std.specs.Prelude.{Bool, true, false, List, [], Option, Some, None, ℕ, ◌+◌, ◌*◌, ◌/◌, ltb, ℤ, pos, get_or}
+use Rattle.std.specs.Borrow.{Bor}
 use Rattle.evc_def.specs.declared.EvcBlock.{EvcBlock}
 use Rattle.evc_def.specs.declared.EvcMv.{EvcMv}
 
@@ -35,6 +36,15 @@ mv_at map unit lidx = record { x = get_or map (mv_len * unit + 2 * lidx) (pos 0)
 
 abbrev pub map_short : ℕ → ℕ → ℕ → Bool
 map_short W H map = ltb map (mv_len * units_of W H)
+
+-- the collocated map, "only where present": whether it is, and its numbers
+abbrev pub is_present : Option (Bor (List ℤ)) → Bool
+is_present (Some map) = true
+is_present None = false
+
+abbrev pub numbers_of : Option (Bor (List ℤ)) → List ℤ
+numbers_of (Some map) = map.now
+numbers_of None = []
 
 -- a block in units, under the Rust's names: its picture's sides, its place, the index of its first unit, and its sides
 abbrev pub w_scu : EvcBlock → ℕ

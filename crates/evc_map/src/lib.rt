@@ -1,7 +1,7 @@
 #![tactic(auto)]
 
-ghost use Rattle.std.specs.Prelude.{◌≡◌, ◌+◌, ◌*◌, ◌/◌, ◌<◌, ◌≤◌, ◌^◌, length, get_or, pos};
-ghost use Rattle.evc_map.specs.Maps.{units_of, most_units, scup, word_at, words_short, mv_len, mv_at, map_short};
+ghost use Rattle.std.specs.Prelude.{◌≡◌, cond, false, ◌&&◌, ◌+◌, ◌*◌, ◌/◌, ◌<◌, ◌≤◌, ◌^◌, length, get_or, pos};
+ghost use Rattle.evc_map.specs.Maps.{units_of, most_units, scup, word_at, words_short, mv_len, mv_at, map_short, is_present, numbers_of};
 
 use evc_def::{Block, EvcMv, MCU, Pel, Picture, Scu};
 
@@ -74,4 +74,25 @@ pub fn map_short(pic: Picture, map_mv: usize) -> bool
     ensures { result ≡ map_short pic.w pic.h map_mv }
 {
     map_mv < MAP_MV_LEN * unit_count(pic).index()
+}
+
+// The collocated map, where there is one.
+pub fn col_short(pic: Picture, col_mv: Option<&[i16]>) -> bool
+    ensures { result ≡ (is_present col_mv.entry && map_short pic.w pic.h (length (numbers_of col_mv.entry))) }
+{
+    match col_mv {
+        Some(map) => map_short(pic, map.len()),
+        None => false,
+    }
+}
+
+// Its vector for list 0 at the block's first unit, and another where there is no map.
+pub fn col_mv_at(b: Block, col_mv: Option<&[i16]>, other: EvcMv) -> EvcMv
+    requires { (is_present col_mv && map_short b.given.pic_w b.given.pic_h (length (numbers_of col_mv))) ≡ false }
+    ensures { result ≡ cond (is_present col_mv.entry) (mv_at (numbers_of col_mv.entry) (scup b.given) 0) other }
+{
+    match col_mv {
+        Some(map) => mv_at(map, first_unit(b), 0),
+        None => other,
+    }
 }
