@@ -1,5 +1,5 @@
 -- Document 01, 'Direct vectors'.
-use Rattle.std.specs.Prelude.{Bool, cond, ◌&&◌, ◌||◌, List, [], ◌∷◌, ◌++◌, ◌≡◌, ℕ, ltb, eqb, ℤ, pos, neg_ℤ, ◌-ℤ◌, ◌*ℤ◌, length}
+use Rattle.std.specs.Prelude.{Bool, cond, ◌&&◌, ◌||◌, List, [], ◌∷◌, ◌++◌, ◌≡◌, ℕ, ltb, eqb, ℤ, pos, neg_ℤ, ◌-ℤ◌, ◌*ℤ◌, length, Result, Ok, Err}
 use Rattle.std.specs.Int.Signed.{quot_z}
 use Rattle.evc_int.specs.Whole.{−◌}
 use Rattle.evc_int.specs.LowBits.{low16}
@@ -7,7 +7,10 @@ use Rattle.evc_def.specs.Blocks.{max_poc}
 use Rattle.evc_def.specs.Codes.{Check, ◌when◌, first_of, block_checks, zero_mv}
 use Rattle.evc_def.specs.declared.EvcBlock.{EvcBlock}
 use Rattle.evc_def.specs.declared.EvcMv.{EvcMv}
+use Rattle.evc_def.specs.declared.refusal.Refusal.{Refusal}
+use Rattle.evc_def.specs.Refusals.{number_of}
 use Rattle.evc_map.specs.Maps.{mv_at, map_short, scup}
+use Rattle.evc_direct.specs.declared.DirectVectors.{DirectVectors}
 use Rattle.evc_direct.specs.declared.EvcDirect.{EvcDirect}
 use Rattle.evc_direct.specs.declared.Pocs.{Pocs}
 
@@ -69,6 +72,11 @@ unfoldable pub get_mv_dir : EvcBlock → Pocs → Bool → List ℤ → EvcDirec
 get_mv_dir b p has_col col =
     let code = first_of (direct_checks b p has_col (length col)) in
     cond (eqb code 0) (direct_vectors p (collocated b has_col col)) (record { code = code; mv0 = zero_mv; mv1 = zero_mv })
+
+-- an answer as the call returns it
+abbrev pub answer_of : Result DirectVectors Refusal → EvcDirect
+answer_of (Ok d) = record { code = 0; mv0 = d.mv0; mv1 = d.mv1 }
+answer_of (Err r) = record { code = number_of r; mv0 = zero_mv; mv1 = zero_mv }
 
 -- 'Edges to try': the two lines on direct vectors
 abbrev pub DirectEdges : Type 0

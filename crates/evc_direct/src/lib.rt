@@ -1,13 +1,12 @@
 #![tactic(auto)]
 
-ghost use Rattle.std.specs.Prelude.{◌≡◌, cond, true, ◌+◌, ◌*◌, ◌<◌, ◌≤◌, length, pos, nat_abs, ◌-ℤ◌};
+ghost use Rattle.std.specs.Prelude.{◌≡◌, ◌<◌, ◌≤◌, Ok, pos, nat_abs, ◌-ℤ◌};
 ghost use Rattle.evc_int.specs.LowBits.{low16};
 ghost use Rattle.evc_def.specs.Blocks.{max_poc};
-ghost use Rattle.evc_def.specs.Codes.{first_of};
-ghost use Rattle.evc_map.specs.Maps.{mv_len, mv_at};
-ghost use Rattle.evc_direct.specs.Direct.{poc_too_large, direct_checks, collocated, exact_quotient, low_mv, direct_vectors, get_mv_dir};
+ghost use Rattle.evc_map.specs.Maps.{is_present, numbers_of};
+ghost use Rattle.evc_direct.specs.Direct.{poc_too_large, exact_quotient, low_mv, direct_vectors, get_mv_dir, answer_of};
 
-use evc_def::{EvcBlock, EvcMv, MAX_POC, Scu};
+use evc_def::{Block, EvcBlock, EvcMv, MAX_POC, Refusal};
 
 // The order counts of the picture and of its two references, and the first count that reference 1 lists.
 #[derive(Clone, Copy)]
@@ -18,6 +17,13 @@ pub struct Pocs {
     pub list_poc0: u32,
 }
 
+// A vector for each list.
+#[derive(Clone, Copy, Default)]
+pub struct DirectVectors {
+    pub mv0: EvcMv,
+    pub mv1: EvcMv,
+}
+
 #[repr(C)]
 #[derive(Clone, Copy)]
 pub struct EvcDirect {
@@ -26,108 +32,91 @@ pub struct EvcDirect {
     pub mv1: EvcMv,
 }
 
+impl From<Result<DirectVectors, Refusal>> for EvcDirect {
+    ghost from_gives = { λ direct answer. answer ≡ answer_of direct };
+
+    fn from(direct: Result<DirectVectors, Refusal>) -> EvcDirect {
+        match direct {
+            Ok(DirectVectors { mv0, mv1 }) => EvcDirect { code: 0, mv0, mv1 },
+            Err(refusal) => EvcDirect {
+                code: refusal.number(),
+                mv0: EvcMv::default(),
+                mv1: EvcMv::default(),
+            },
+        }
+    }
+}
+
 fn poc_too_large(p: Pocs) -> bool
     ensures { result ≡ poc_too_large p }
 {
     (MAX_POC < p.poc) | (MAX_POC < p.poc0) | (MAX_POC < p.poc1) | (MAX_POC < p.list_poc0)
 }
 
-// A component scaled by the distance of counts: the exact quotient, of which the low sixteen bits stay.
-fn scaled(dpoc: i32, v: i16, dpoc_co: i32) -> i16
-    requires { (nat_abs dpoc ≤ max_poc) × (0 < nat_abs dpoc_co) × (nat_abs dpoc_co ≤ max_poc) }
-    ensures { result ≡ low16 (exact_quotient dpoc v dpoc_co) }
-{
-    evc_int::low16(dpoc * (v as i32) / dpoc_co)
+// A distance of counts.
+#[derive(Clone, Copy)]
+struct Dpoc {
+    counts: i32,
+    ghost small: { nat_abs counts ≤ max_poc },
 }
 
-fn scaled_mv(dpoc: i32, mv: EvcMv, dpoc_co: i32) -> EvcMv
-    requires { (nat_abs dpoc ≤ max_poc) × (0 < nat_abs dpoc_co) × (nat_abs dpoc_co ≤ max_poc) }
-    ensures { result ≡ low_mv (exact_quotient dpoc mv.x dpoc_co) (exact_quotient dpoc mv.y dpoc_co) }
+impl Dpoc {
+    fn new(poc: u32, other: u32) -> Dpoc
+        requires { (poc ≤ max_poc) × (other ≤ max_poc) }
+        ensures { result.counts ≡ pos poc -ℤ pos other }
+    {
+        Dpoc {
+            counts: poc as i32 - other as i32,
+        }
+    }
+}
+
+// A component scaled by the distance of counts: the exact quotient, of which the low sixteen bits stay.
+fn scaled(d: Dpoc, v: i16, co: Dpoc) -> i16
+    requires { 0 < nat_abs co.counts }
+    ensures { result ≡ low16 (exact_quotient d.counts v co.counts) }
+{
+    evc_int::low16(d.counts * (v as i32) / co.counts)
+}
+
+fn scaled_mv(d: Dpoc, mv: EvcMv, co: Dpoc) -> EvcMv
+    requires { 0 < nat_abs co.counts }
+    ensures { result ≡ low_mv (exact_quotient d.counts mv.x co.counts) (exact_quotient d.counts mv.y co.counts) }
 {
     EvcMv {
-        x: scaled(dpoc, mv.x, dpoc_co),
-        y: scaled(dpoc, mv.y, dpoc_co),
+        x: scaled(d, mv.x, co),
+        y: scaled(d, mv.y, co),
     }
 }
 
-// A distance of counts.
-fn dpoc(a: u32, b: u32) -> i32
-    requires { (a ≤ max_poc) × (b ≤ max_poc) }
-    ensures { (result ≡ pos a -ℤ pos b) × (nat_abs result ≤ max_poc) }
-{
-    a as i32 - b as i32
-}
-
-fn direct_vectors(p: Pocs, mv: EvcMv) -> EvcDirect
+fn direct_vectors(p: Pocs, mv: EvcMv) -> DirectVectors
     requires { (p.poc ≤ max_poc) × (p.poc0 ≤ max_poc) × (p.poc1 ≤ max_poc) × (p.list_poc0 ≤ max_poc) }
-    ensures { result ≡ direct_vectors p mv }
+    ensures { answer_of (Ok result) ≡ direct_vectors p mv }
 {
     if p.poc1 == p.list_poc0 {
-        return EvcDirect {
-            code: 0,
-            mv0: EvcMv { x: 0, y: 0 },
-            mv1: EvcMv { x: 0, y: 0 },
-        };
+        return DirectVectors::default();
     }
-    let dpoc_co = dpoc(p.poc1, p.list_poc0);
-    EvcDirect {
-        code: 0,
-        mv0: scaled_mv(dpoc(p.poc, p.poc0), mv, dpoc_co),
-        mv1: scaled_mv(dpoc(p.poc, p.poc1), mv, dpoc_co),
+    let co = Dpoc::new(p.poc1, p.list_poc0);
+    DirectVectors {
+        mv0: scaled_mv(Dpoc::new(p.poc, p.poc0), mv, co),
+        mv1: scaled_mv(Dpoc::new(p.poc, p.poc1), mv, co),
     }
 }
 
-// The number of a direct call.
-pub fn direct_code(b: EvcBlock, p: Pocs, has_col: bool, col_mv: usize) -> u32
-    ensures { result ≡ first_of (direct_checks b p has_col col_mv) }
+pub fn get_mv_dir(
+    block: EvcBlock,
+    pocs: Pocs,
+    col_mv: Option<&[i16]>,
+) -> Result<DirectVectors, Refusal>
+    ensures { answer_of result ≡ get_mv_dir block pocs (is_present col_mv.entry) (numbers_of col_mv.entry) }
 {
-    let code = evc_def::block_code(b);
-    if code != 0 {
-        return code;
+    let b = Block::new(block)?;
+    if evc_map::col_short(b.picture(), col_mv) {
+        return Err(Refusal::Buffer);
     }
-    if has_col & evc_map::map_short(b.pic_w, b.pic_h, col_mv) {
-        return 4;
+    if poc_too_large(pocs) {
+        return Err(Refusal::OrderCount);
     }
-    if poc_too_large(p) {
-        return 5;
-    }
-    0
-}
-
-// The collocated vector, list 0 at the block's first unit; `other` without a map.
-fn collocated_mv(has_col: bool, col_mv: &[i16], scup: Scu, other: EvcMv) -> EvcMv
-    requires { has_col ≡ true → mv_len * scup.0 + mv_len ≤ length col_mv.now }
-    ensures { result ≡ cond has_col (mv_at col_mv.now scup.0 0) other }
-{
-    if has_col {
-        evc_map::mv_at(col_mv, scup, 0)
-    } else {
-        other
-    }
-}
-
-// The vectors of one that is accepted.
-pub fn direct_mv(block: EvcBlock, pocs: Pocs, has_col: bool, col_mv: &[i16]) -> EvcDirect
-    requires { first_of (direct_checks block pocs has_col (length col_mv.now)) ≡ 0 }
-    ensures { result ≡ direct_vectors pocs (collocated block has_col col_mv.now) }
-{
-    let scup = evc_map::unit_at(block.pic_w, block.x, block.y);
-    let mv = collocated_mv(has_col, col_mv, scup, EvcMv { x: 0, y: 0 });
-    direct_vectors(pocs, mv)
-}
-
-pub fn evc_get_mv_dir(block: EvcBlock, pocs: Pocs, has_col: bool, col_mv: &[i16]) -> EvcDirect
-    ensures { result ≡ get_mv_dir block pocs has_col col_mv.now }
-{
-    let code = direct_code(block, pocs, has_col, col_mv.len());
-    // One record that is filled, since two that meet go back through memory.
-    let mut direct = EvcDirect {
-        code,
-        mv0: EvcMv { x: 0, y: 0 },
-        mv1: EvcMv { x: 0, y: 0 },
-    };
-    if code == 0 {
-        direct = direct_mv(block, pocs, has_col, col_mv);
-    }
-    direct
+    let mv = evc_map::col_mv_at(b, col_mv, EvcMv::default());
+    Ok(direct_vectors(pocs, mv))
 }

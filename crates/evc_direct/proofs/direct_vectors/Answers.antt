@@ -18,9 +18,9 @@ abbrev scaled_by : ℤ → ℤ → EvcMv → EvcMv
 scaled_by dpoc co mv = low_mv (exact_quotient dpoc mv.x co) (exact_quotient dpoc mv.y co)
 
 module _ (p : Pocs) (mv : EvcMv) where
-  none : p.poc1 ≡ p.list_poc0 → record { code = 0; mv0 = record { x = pos 0; y = pos 0 }; mv1 = record { x = pos 0; y = pos 0 } } ≡ direct_vectors p mv
+  zeros : (r s : EvcMv) → (r.x ≡ pos 0) × (r.y ≡ pos 0) → (s.x ≡ pos 0) × (s.y ≡ pos 0) → p.poc1 ≡ p.list_poc0 → record { code = 0; mv0 = r; mv1 = s } ≡ direct_vectors p mv
   unfolding direct_vectors exact_quotients low16
-  none e = rw (eq-eqb p.poc1 p.list_poc0 e)
+  zeros r s d f e = rw (eq-eqb p.poc1 p.list_poc0 e, d.0, d.1, f.0, f.1)
 
   both : (r s : EvcMv) → (p.poc1 ≡ p.list_poc0 → ⊥) → r ≡ scaled_by (dpoc0 p) (dpoc_co p) mv → s ≡ scaled_by (dpoc1 p) (dpoc_co p) mv → record { code = 0; mv0 = r; mv1 = s } ≡ direct_vectors p mv
   unfolding direct_vectors exact_quotients
@@ -31,11 +31,10 @@ module _ (p : Pocs) (mv : EvcMv) where
   turned = solve (! (pos p.poc) ⊖ ! (pos p.poc1)) (neg (! (pos p.poc1) ⊖ ! (pos p.poc))) (omega arith)
 
 pub returns-then-p : goal.returns-then-p
-returns-then-p c = none _ _ c.if-p.true
+returns-then-p c = zeros c.args.p c.args.mv _ _ c.default.ensures.0 c.default.ensures.1 c.if-p.true
 
 pub returns : goal.returns
 returns c =
-    let co : to_z w32 (of_z w32 c.dpoc-dpoc_co.result) ≡ dpoc_co c.args.p = res w32 c.dpoc-dpoc_co.type_inv ∙ c.dpoc-dpoc_co.ensures.0 in
     both c.args.p c.args.mv _ _ c.if-p.false
-    (c.scaled_mv.ensures ∙ ap₂ (λ (a b : ℤ). scaled_by a b c.args.mv) (res w32 c.dpoc.type_inv ∙ c.dpoc.ensures.0) co)
-    (c.scaled_mv-2.ensures ∙ ap₂ (λ (a b : ℤ). scaled_by a b c.args.mv) (res w32 c.dpoc-2.type_inv ∙ c.dpoc-2.ensures.0 ∙ turned c.args.p c.args.mv) co)
+    (c.scaled_mv.ensures ∙ ap₂ (λ (a b : ℤ). scaled_by a b c.args.mv) c.new.ensures c.new-co.ensures)
+    (c.scaled_mv-2.ensures ∙ ap₂ (λ (a b : ℤ). scaled_by a b c.args.mv) (c.new-2.ensures ∙ turned c.args.p c.args.mv) c.new-co.ensures)

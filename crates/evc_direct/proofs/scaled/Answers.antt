@@ -14,17 +14,20 @@ use Rattle.evc_direct.proofs.scaled.Lts as place
 use Rattle.evc_direct.proofs.scaled.Reads.{Pre, Post}
 use Rattle.evc_direct.proofs.scaled.Tie.{the-claims as claims}
 
+counts_fit : (c : place.Start claims Pre Post) → SFits w32 c.args.d.counts × SFits w32 c.args.co.counts
+counts_fit c = (fit_abs c.args.d.small (lit< tt), fit_abs c.args.co.small (lit< tt))
+
 v_fits : (c : place.Start claims Pre Post) → SFits w32 c.args.v
 v_fits c = sfits_widen tt c.ranges.v
 
-product_fits : (c : place.Start claims Pre Post) → SFits w32 (c.args.dpoc *ℤ c.args.v)
-product_fits c = fit_abs (abs_mul_le c.args.dpoc c.args.v c.requires.0 (rng_abs c.ranges.v)) (lit< tt)
+product_fits : (c : place.Start claims Pre Post) → SFits w32 (c.args.d.counts *ℤ c.args.v)
+product_fits c = fit_abs (abs_mul_le c.args.d.counts c.args.v c.args.d.small (rng_abs c.ranges.v)) (lit< tt)
 
-quotient_fits : (c : place.Start claims Pre Post) → SFits w32 (quot_z (c.args.dpoc *ℤ c.args.v) c.args.dpoc_co)
+quotient_fits : (c : place.Start claims Pre Post) → SFits w32 (quot_z (c.args.d.counts *ℤ c.args.v) c.args.co.counts)
 quotient_fits c =
-    fit_abs (abs_quot_le (c.args.dpoc *ℤ c.args.v) c.args.dpoc_co (abs_mul_le c.args.dpoc c.args.v c.requires.0 (rng_abs c.ranges.v))) (lit< tt)
+    fit_abs (abs_quot_le (c.args.d.counts *ℤ c.args.v) c.args.co.counts (abs_mul_le c.args.d.counts c.args.v c.args.d.small (rng_abs c.ranges.v))) (lit< tt)
 
 pub returns : goal.returns
 returns c =
     res w16 c.low16.type_inv
-    ∙ simp (to_z-of_z c.ranges.v, to_z-of_z c.ranges.dpoc, to_z-of_z c.ranges.dpoc_co, to_z-of_z (v_fits c.before), to_z-of_z (product_fits c.before), to_z-of_z (quotient_fits c.before)) at c.low16.ensures
+    ∙ simp (to_z-of_z c.ranges.v, to_z-of_z (counts_fit c.before.before.before.before).0, to_z-of_z (counts_fit c.before.before.before.before).1, to_z-of_z (v_fits c.before.before.before.before), to_z-of_z (product_fits c.before.before.before.before), to_z-of_z (quotient_fits c.before.before.before.before)) at c.low16.ensures
