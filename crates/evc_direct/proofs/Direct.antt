@@ -1,16 +1,15 @@
 -- What the checks of a direct call leave, and its answer: the number and zeros, or the vectors. Assumes nothing.
-use mathlib.Core.Bool.{Bool, true, false, cond, ◌||◌}
+use mathlib.Core.Bool.{Bool, false, cond, ◌||◌}
 use mathlib.Core.List.{List}
 use mathlib.Core.Path.{◌≡◌, sym}
-use Prim.Native.Nat.{ℕ, ◌+◌, ◌*◌, ◌≤◌}
-use native.Mathlib.Omega.{arith}
+use Prim.Native.Nat.{◌≤◌}
 use borrow.Author.Tests.{ne_eqb, ltb-false}
 use lib.Dec.{ltb}
 use lib.IntN.{ℤ, pos}
 use lib.ListN.{length}
-use Rattle.evc_int.proofs.Bools.{none_true, and_false_right}
-use Rattle.evc_def.specs.Blocks.{Allowed, max_poc}
-use Rattle.evc_def.specs.Codes.{first_of, block_checks, zero_mv}
+use Rattle.evc_int.proofs.Bools.{none_true}
+use Rattle.evc_def.specs.Blocks.{max_poc}
+use Rattle.evc_def.specs.Codes.{first_of}
 use Rattle.evc_def.specs.declared.EvcBlock.{EvcBlock}
 use Rattle.evc_def.specs.declared.EvcMv.{EvcMv}
 use Rattle.evc_def.specs.Refusals.{number_of}
@@ -18,7 +17,6 @@ use Rattle.evc_def.specs.declared.refusal.Refusal.{Refusal}
 use Rattle.evc_def.proofs.Refusals.{not_0}
 use Rattle.std.proofs.Common.{Err}
 use Rattle.evc_map.specs.Maps.{mv_at, scup}
-use Rattle.evc_map.proofs.Units.{scup_below}
 use Rattle.evc_direct.specs.Direct.{poc_too_large, direct_checks, collocated, direct_vectors, get_mv_dir, answer_of}
 use Rattle.evc_direct.specs.declared.EvcDirect.{EvcDirect}
 use Rattle.evc_direct.specs.declared.Pocs.{Pocs}

@@ -3,11 +3,8 @@ use mathlib.Core.Path.{◌≡◌, ap₂, ◌∙◌}
 use native.Mathlib.Omega.{arith}
 use borrow.Author.Tests.{eq-eqb, ne_eqb}
 use lib.IntN.{ℤ, pos, ◌-ℤ◌}
-use mir.Syntax.{w32}
-use mir.Val.{to_z, of_z}
 use Rattle.evc_int.specs.LowBits.{low16}
 use Rattle.evc_int.proofs.Expressions.{ !, ◌⊖◌, neg, solve}
-use Rattle.evc_int.proofs.Machine.{res}
 use Rattle.evc_def.specs.declared.EvcMv.{EvcMv}
 use Rattle.evc_direct.specs.Direct.{dpoc_co, dpoc0, dpoc1, exact_quotient, exact_quotients, low_mv, direct_vectors}
 use Rattle.evc_direct.specs.declared.Pocs.{Pocs}

@@ -1,13 +1,10 @@
 -- `evc_direct::get_mv_dir` meets its contract: 1, 2, then 4, 5, or the vectors. Assumes nothing.
-use mathlib.Core.Bool.{false, ◌&&◌}
-use mathlib.Core.Path.{◌≡◌, sym, ap, ◌∙◌}
-use lib.ListN.{length}
+use mathlib.Core.Path.{sym, ap, ◌∙◌}
 use Rattle.std.proofs.lemmas.Result.{err_from_is_err_and}
-use Rattle.evc_def.specs.Codes.{first_of, block_checks}
+use Rattle.evc_def.specs.Codes.{block_checks}
 use Rattle.evc_def.specs.declared.refusal.Refusal.TheVariants.{Buffer, OrderCount}
 use Rattle.evc_def.proofs.Codes.{refused, passed, none, stops, goes_on}
 use Rattle.evc_def.proofs.Refusals.{not_0}
-use Rattle.evc_map.specs.Maps.{is_present, numbers_of, map_short}
 use Rattle.evc_direct.specs.Direct.{direct_vectors}
 use Rattle.evc_direct.proofs.Direct.{counts, refusal, done, collocated_is}
 use Rattle.evc_direct.proofs.get_mv_dir.Goals as goal
