@@ -40,6 +40,17 @@ pub struct Span {
     pub ghost allowed: { Allowed size place side },
 }
 
+impl Span {
+    ghost use Rattle.std.specs.Prelude.{not, eqb, ◌+◌};
+
+    // Whether the picture goes on behind the block. The sum is that of the check, so that it is formed once.
+    pub fn goes_on(self) -> bool
+        ensures { result ≡ not (eqb (self.place + self.side) self.size) }
+    {
+        self.place as u64 + self.side as u64 != self.size as u64
+    }
+}
+
 // A block of a picture.
 #[derive(Clone, Copy)]
 pub struct Block {

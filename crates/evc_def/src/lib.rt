@@ -241,6 +241,30 @@ pub struct EvcMv {
     pub y: i16,
 }
 
+// One of the two lists of reference pictures.
+#[derive(Clone, Copy, PartialEq, Eq)]
+pub enum RefList {
+    List0,
+    List1,
+}
+
+// By its number, lidx of the Rust.
+impl TryFrom<u32> for RefList {
+    type Error = Refusal;
+
+    ghost use Rattle.evc_def.specs.Lists.{IsRefList};
+
+    ghost try_from_gives = { IsRefList };
+
+    fn try_from(lidx: u32) -> Result<RefList, Refusal> {
+        match lidx {
+            0 => Ok(RefList::List0),
+            1 => Ok(RefList::List1),
+            _ => Err(Refusal::List),
+        }
+    }
+}
+
 // A block of a picture, in luma samples.
 #[repr(C)]
 #[derive(Clone, Copy)]

@@ -1,9 +1,10 @@
 #![tactic(auto)]
 
 ghost use Rattle.std.specs.Prelude.{◌≡◌, cond, false, ◌&&◌, ◌+◌, ◌*◌, ◌/◌, ◌<◌, ◌≤◌, ◌^◌, length, get_or, pos};
+ghost use Rattle.evc_def.specs.Lists.{lidx_of};
 ghost use Rattle.evc_map.specs.Maps.{units_of, most_units, scup, word_at, words_short, mv_len, mv_at, map_short, is_present, numbers_of};
 
-use evc_def::{Block, EvcMv, MCU, Pel, Picture, Scu};
+use evc_def::{Block, EvcMv, MCU, Pel, Picture, RefList, Scu};
 
 // ---- units
 
@@ -51,21 +52,15 @@ pub fn words_short(pic: Picture, words: usize) -> bool
 // Numbers of a unit in a motion map: list 0 x, y, list 1 x, y.
 const MAP_MV_LEN: usize = 4;
 
-// The one place where a motion map is read: a component of the vector of a unit and a list.
-fn map_mv_at(map_mv: &[i16], scup: Scu, lidx: usize, d: usize) -> i16
-    requires { (lidx ≤ 1) × (d ≤ 1) × (mv_len * scup.0 + mv_len ≤ length map_mv.now) }
-    ensures { result ≡ get_or map_mv.now (mv_len * scup.0 + 2 * lidx + d) (pos 0) }
+// The one place where a motion map is read.
+pub fn mv_at(map_mv: &[i16], scup: Scu, list: RefList) -> EvcMv
+    requires { mv_len * scup.0 + mv_len ≤ length map_mv.now }
+    ensures { result ≡ mv_at map_mv.now scup.0 (lidx_of list) }
 {
-    map_mv[MAP_MV_LEN * scup.index() + 2 * lidx + d]
-}
-
-pub fn mv_at(map_mv: &[i16], scup: Scu, lidx: usize) -> EvcMv
-    requires { (lidx ≤ 1) × (mv_len * scup.0 + mv_len ≤ length map_mv.now) }
-    ensures { result ≡ mv_at map_mv.now scup.0 lidx }
-{
+    let across = MAP_MV_LEN * scup.index() + 2 * list as usize;
     EvcMv {
-        x: map_mv_at(map_mv, scup, lidx, 0),
-        y: map_mv_at(map_mv, scup, lidx, 1),
+        x: map_mv[across],
+        y: map_mv[across + 1],
     }
 }
 
@@ -92,7 +87,7 @@ pub fn col_mv_at(b: Block, col_mv: Option<&[i16]>, other: EvcMv) -> EvcMv
     ensures { result ≡ cond (is_present col_mv.entry) (mv_at (numbers_of col_mv.entry) (scup b.given) 0) other }
 {
     match col_mv {
-        Some(map) => mv_at(map, first_unit(b), 0),
+        Some(map) => mv_at(map, first_unit(b), RefList::List0),
         None => other,
     }
 }
