@@ -15,20 +15,17 @@ use Rattle.evc_def.specs.declared.EvcBlock.{EvcBlock}
 use Rattle.evc_map.specs.Maps.{units_of, mv_len, map_short, w_scu, scup}
 use Rattle.evc_motion.specs.Candidates.{flag_outside, maps_short, neighbour}
 
-module _ (b : EvcBlock) (map : ℕ) (has : Bool) (col : ℕ) (e : maps_short b map has col ≡ false) (n : ℕ) (below : n < units_of b.pic_w b.pic_h) where
-  pub map_reaches : mv_len * n + mv_len ≤ map
+module _ (b : EvcBlock) (map : ℕ) (has : Bool) (col : ℕ) (e : maps_short b map has col ≡ false) where
+  pub map_reaches : (n : ℕ) → n < units_of b.pic_w b.pic_h → mv_len * n + mv_len ≤ map
   unfolding maps_short
-  map_reaches =
+  map_reaches n below =
       let f = (none_true (map_short b.pic_w b.pic_h map) (has && map_short b.pic_w b.pic_h col) e).0 in
       let l = ltb-false map _ f in
       omega arith
 
-  pub col_reaches : has ≡ true → mv_len * n + mv_len ≤ col
+  pub no_col_short : (has && map_short b.pic_w b.pic_h col) ≡ false
   unfolding maps_short
-  col_reaches t =
-      let f = (none_true (map_short b.pic_w b.pic_h map) (has && map_short b.pic_w b.pic_h col) e).1 in
-      let l = ltb-false col _ (and_false_right has (map_short b.pic_w b.pic_h col) f t) in
-      omega arith
+  no_col_short = (none_true (map_short b.pic_w b.pic_h map) (has && map_short b.pic_w b.pic_h col) e).1
 
 -- a place that is not 0 is at least one unit in
 one_unit : (size place side : ℕ) → Allowed size place side → (place ≡ 0 → ⊥) → 1 ≤ place / 4

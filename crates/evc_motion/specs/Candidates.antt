@@ -1,12 +1,13 @@
 -- Document 01, 'Candidates'.
-use Rattle.std.specs.Prelude.{Bool, cond, ◌&&◌, ◌||◌, List, [], ◌∷◌, ◌++◌, ℕ, ◌+◌, ◌-◌, ltb, eqb, ℤ, pos, length}
+use Rattle.std.specs.Prelude.{Bool, cond, ◌&&◌, ◌||◌, List, [], ◌∷◌, ◌++◌, ℕ, ◌+◌, ◌-◌, ltb, eqb, ℤ, pos, length, Result, Ok, Err}
 use Rattle.evc_def.specs.Codes.{Check, ◌when◌, first_of, block_checks}
 use Rattle.evc_def.specs.Tables.{is_bit}
 use Rattle.evc_def.specs.declared.EvcBlock.{EvcBlock}
 use Rattle.evc_def.specs.declared.EvcMv.{EvcMv}
+use Rattle.evc_def.specs.declared.refusal.Refusal.{Refusal}
+use Rattle.evc_def.specs.Refusals.{number_of}
 use Rattle.evc_map.specs.Maps.{mv_at, map_short, w_scu, scup, scuw}
 use Rattle.evc_motion.specs.declared.EvcCandidates.{EvcCandidates}
-use Rattle.evc_motion.specs.declared.Motion.{Motion}
 
 -- "Flag 7 means left at x = 0, up at y = 0, or up-right at y = 0 or x + w = W; other bits are ignored."
 unfoldable pub flag_outside : EvcBlock → ℕ → Bool
@@ -38,8 +39,18 @@ candidates b lidx avail map has_col col old =
       refi = pos 0 ∷ pos 0 ∷ pos 0 ∷ pos 0 ∷ [];
     }
 
+-- the call's number, and the record afterwards
+pub record Motion : Type 0 where
+  pub code : ℕ
+  pub cand : EvcCandidates
+
 -- the call by value: after a refusal the record is the one that came in
 unfoldable pub get_motion : EvcBlock → ℕ → ℕ → List ℤ → Bool → List ℤ → EvcCandidates → Motion
 get_motion b lidx avail map has_col col old =
     let code = first_of (motion_checks b lidx avail (length map) has_col (length col)) in
     record { code = code; cand = cond (eqb code 0) (candidates b lidx avail map has_col col old) old }
+
+-- an answer as the call returns it, for a record that came in
+abbrev pub motion_of : EvcCandidates → Result EvcCandidates Refusal → Motion
+motion_of old (Ok cand) = record { code = 0; cand = cand }
+motion_of old (Err r) = record { code = number_of r; cand = old }

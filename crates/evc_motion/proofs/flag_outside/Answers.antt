@@ -26,10 +26,14 @@ module _ (b : EvcBlock) (avail : ℕ) (right : Bool) (e : right ≡ not (eqb (b.
   unfolding flag_outside
   at_edge le up up-ri p q r = rw (p, q, r, e, not_not (eqb (b.x + b.w) b.pic_w))
 
+-- the picture goes on, as the span of the block says
+on : (b : EvcBlock) (place side size : ℕ) (r : Bool) → r ≡ not (eqb (place + side) size) → (size ≡ b.pic_w) × (place ≡ b.x) × (side ≡ b.w) → r ≡ not (eqb (b.x + b.w) b.pic_w)
+on b place side size r e s = e ∙ rw (s.0, s.1, s.2)
+
 pub returns-then-b-right : goal.returns-then-b-right
 returns-then-b-right c =
-    inner c.args.b c.args.avail _ c.has_right-right.ensures c.if-b-right.true
+    inner c.args.b.given c.args.avail _ (on c.args.b.given _ _ _ _ c.goes_on-right.ensures c.across.ensures) c.if-b-right.true
 
 pub returns-else-b-right : goal.returns-else-b-right
 returns-else-b-right c =
-    at_edge c.args.b c.args.avail _ c.has_right-right.ensures _ _ _ c.GET_AVAIL_FLAG.ensures c.GET_AVAIL_FLAG-else-b-right.ensures c.GET_AVAIL_FLAG-else-b-right-2.ensures
+    at_edge c.args.b.given c.args.avail _ (on c.args.b.given _ _ _ _ c.goes_on-right.ensures c.across.ensures) _ _ _ c.GET_AVAIL_FLAG.ensures c.GET_AVAIL_FLAG-else-b-right.ensures c.GET_AVAIL_FLAG-else-b-right-2.ensures
