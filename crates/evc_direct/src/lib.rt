@@ -6,7 +6,7 @@ ghost use Rattle.evc_def.specs.Blocks.{max_poc};
 ghost use Rattle.evc_map.specs.Maps.{is_present, numbers_of};
 ghost use Rattle.evc_direct.specs.Direct.{poc_too_large, exact_quotient, low_mv, direct_vectors, get_mv_dir, answer_of};
 
-use evc_def::{Block, EvcBlock, EvcMv, MAX_POC, Refusal};
+use evc_def::{Block, EvcBlock, EvcMv, MAX_POC, RefList, Refusal};
 
 // The order counts of the picture and of its two references, and the first count that reference 1 lists.
 #[derive(Clone, Copy)]
@@ -117,6 +117,6 @@ pub fn get_mv_dir(
     if poc_too_large(pocs) {
         return Err(Refusal::OrderCount);
     }
-    let mv = evc_map::col_mv_at(b, col_mv, EvcMv::default());
+    let mv = evc_map::col_mv_at(b, col_mv, RefList::List0, EvcMv::default());
     Ok(direct_vectors(pocs, mv))
 }

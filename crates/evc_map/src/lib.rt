@@ -81,13 +81,13 @@ pub fn col_short(pic: Picture, col_mv: Option<&[i16]>) -> bool
     }
 }
 
-// Its vector for list 0 at the block's first unit, and another where there is no map.
-pub fn col_mv_at(b: Block, col_mv: Option<&[i16]>, other: EvcMv) -> EvcMv
+// Its vector at the block's first unit, and another where there is no map.
+pub fn col_mv_at(b: Block, col_mv: Option<&[i16]>, list: RefList, other: EvcMv) -> EvcMv
     requires { (is_present col_mv && map_short b.given.pic_w b.given.pic_h (length (numbers_of col_mv))) ≡ false }
-    ensures { result ≡ cond (is_present col_mv.entry) (mv_at (numbers_of col_mv.entry) (scup b.given) 0) other }
+    ensures { result ≡ cond (is_present col_mv.entry) (mv_at (numbers_of col_mv.entry) (scup b.given) (lidx_of list)) other }
 {
     match col_mv {
-        Some(map) => mv_at(map, first_unit(b), RefList::List0),
+        Some(map) => mv_at(map, first_unit(b), list),
         None => other,
     }
 }

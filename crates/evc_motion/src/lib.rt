@@ -76,7 +76,7 @@ fn candidates(
         left: neighbour_mv(map_mv, list, le, scup, Scu(1)),
         up: neighbour_mv(map_mv, list, up, scup, w_scu),
         up_right: neighbour_mv(map_mv, list, up_ri, scup, Scu(w_scu.0 - scuw.0)),
-        collocated: evc_map::col_mv_at(b, col_mv, old.collocated),
+        collocated: evc_map::col_mv_at(b, col_mv, RefList::List0, old.collocated),
         refi: [0; 4],
     }
 }

@@ -1,14 +1,13 @@
 #![tactic(auto)]
 
-ghost use Rattle.std.specs.Prelude.{◌≡◌, false, ◌+◌, ◌*◌, ◌≤◌, length, drop};
-ghost use Rattle.evc_def.specs.Blocks.{bad_picture};
+ghost use Rattle.std.specs.Prelude.{◌≡◌, ◌+◌, ◌*◌, ◌≤◌, length, drop};
 ghost use Rattle.evc_plane.specs.Planes.{pad_of, origin_of, side_of, plane_len, config_of, start_at, window_start};
 
-use evc_def::{PIC_PAD_SIZE_C, PIC_PAD_SIZE_L, Pel};
+use evc_def::{PIC_PAD_SIZE_C, PIC_PAD_SIZE_L, Pel, Picture};
 
 // ---- the sizes of Plane::new
 
-#[derive(Clone, Copy)]
+#[derive(Clone, Copy, PartialEq, Eq)]
 pub enum PlaneType {
     Y,
     UV,
@@ -28,42 +27,43 @@ const XORIGIN_L: usize = (PIC_PAD_SIZE_L + 15) / 16 * 16;
 
 const XORIGIN_C: usize = (PIC_PAD_SIZE_C + 15) / 16 * 16;
 
-fn pad_size(t: PlaneType) -> usize
-    ensures { result ≡ pad_of t }
-{
-    match t {
-        PlaneType::Y => PIC_PAD_SIZE_L,
-        PlaneType::UV => PIC_PAD_SIZE_C,
+impl PlaneType {
+    fn pad_size(self) -> usize
+        ensures { result ≡ pad_of self }
+    {
+        match self {
+            PlaneType::Y => PIC_PAD_SIZE_L,
+            PlaneType::UV => PIC_PAD_SIZE_C,
+        }
+    }
+
+    fn xorigin(self) -> usize
+        ensures { result ≡ origin_of self }
+    {
+        match self {
+            PlaneType::Y => XORIGIN_L,
+            PlaneType::UV => XORIGIN_C,
+        }
+    }
+
+    // A plane's side, from the picture's.
+    pub fn side(self, n: u32) -> usize
+        ensures { result ≡ side_of self n }
+    {
+        match self {
+            PlaneType::Y => n as usize,
+            PlaneType::UV => (n / 2) as usize,
+        }
     }
 }
 
-fn xorigin(t: PlaneType) -> usize
-    ensures { result ≡ origin_of t }
+pub fn plane_config(t: PlaneType, pic: Picture) -> PlaneConfig
+    ensures { result ≡ config_of t pic.w pic.h }
 {
-    match t {
-        PlaneType::Y => XORIGIN_L,
-        PlaneType::UV => XORIGIN_C,
-    }
-}
-
-// A plane's side, from the picture's.
-pub fn side(t: PlaneType, n: u32) -> usize
-    ensures { result ≡ side_of t n }
-{
-    match t {
-        PlaneType::Y => n as usize,
-        PlaneType::UV => (n / 2) as usize,
-    }
-}
-
-pub fn plane_config(t: PlaneType, pic_w: u32, pic_h: u32) -> PlaneConfig
-    requires { bad_picture pic_w pic_h ≡ false }
-    ensures { result ≡ config_of t pic_w pic_h }
-{
-    let xorigin = xorigin(t);
-    let pad = pad_size(t);
-    let width = side(t, pic_w);
-    let height = side(t, pic_h);
+    let xorigin = t.xorigin();
+    let pad = t.pad_size();
+    let width = t.side(pic.w);
+    let height = t.side(pic.h);
     PlaneConfig {
         stride: (xorigin + width + pad + 15) / 16 * 16,
         alloc_height: pad + height + pad,
@@ -75,11 +75,10 @@ pub fn plane_config(t: PlaneType, pic_w: u32, pic_h: u32) -> PlaneConfig
 }
 
 // The length that a plane's buffer needs.
-pub fn plane_len(t: PlaneType, pic_w: u32, pic_h: u32) -> usize
-    requires { bad_picture pic_w pic_h ≡ false }
-    ensures { result ≡ plane_len t pic_w pic_h }
+pub fn plane_len(t: PlaneType, pic: Picture) -> usize
+    ensures { result ≡ plane_len t pic.w pic.h }
 {
-    let c = plane_config(t, pic_w, pic_h);
+    let c = plane_config(t, pic);
     c.stride * c.alloc_height
 }
 
@@ -100,11 +99,10 @@ fn clamp(start: Pel, origin: usize, size: usize) -> usize
 }
 
 // The index of a window's first sample, from its place in the picture.
-pub fn window_start(t: PlaneType, pic_w: u32, pic_h: u32, x: Pel, y: Pel) -> usize
-    requires { bad_picture pic_w pic_h ≡ false }
-    ensures { result ≡ window_start t pic_w pic_h x.0 y.0 }
+pub fn window_start(t: PlaneType, pic: Picture, x: Pel, y: Pel) -> usize
+    ensures { result ≡ window_start t pic.w pic.h x.0 y.0 }
 {
-    let c = plane_config(t, pic_w, pic_h);
+    let c = plane_config(t, pic);
     let row = clamp(y, c.yorigin, c.height);
     let column = clamp(x, c.xorigin, c.width);
     row * c.stride + column

@@ -11,8 +11,8 @@ made : (t : PlaneType) (W H o p w h : ℕ) → o ≡ origin_of t → p ≡ pad_o
 unfolding config_of stride_of rows_of
 made t W H o p w h a b c d = simp (a, b, c, d)
 
-small : (c : goal.After-side-height) → Sizes (config_of c.args.t c.args.pic_w c.args.pic_h)
-small c = sizes _ _ _ c.requires
+small : (c : goal.After-side-height) → Sizes (config_of c.args.t c.args.pic.w c.args.pic.h)
+small c = sizes _ _ _ c.args.pic.accepted
 
 pub returns : goal.returns
 returns c = made _ _ _ _ _ _ _ c.xorigin-xorigin.ensures c.pad_size-pad.ensures c.side-width.ensures c.side-height.ensures

@@ -12,7 +12,7 @@ use Rattle.evc_plane.proofs.Starts.{start_range}
 use Rattle.evc_plane.proofs.window_start.Goals as goal
 
 sized : (c : goal.After-plane_config-c) → Sizes c.plane_config-c.result
-sized c = sizes_of _ _ _ _ c.plane_config-c.ensures c.requires
+sized c = sizes_of _ _ _ _ c.plane_config-c.ensures c.args.pic.accepted
 
 module _ (t : PlaneType) (W H : ℕ) (c : PlaneConfig) (zx zy : ℤ) (x y : ℕ) (ex : x ≡ start_at c.xorigin c.width zx) (ey : y ≡ start_at c.yorigin c.height zy) where
   index : c ≡ config_of t W H → y * c.stride + x ≡ window_start t W H zx zy
@@ -30,7 +30,7 @@ module _ (t : PlaneType) (W H : ℕ) (c : PlaneConfig) (zx zy : ℤ) (x y : ℕ)
 
 within : (c : goal.After-struct_known-1) → c.clamp-row.result * c.plane_config-c.result.stride + c.clamp-column.result ≤ 8288 * 8288 + 8288
 within c =
-    small c.args.t c.args.pic_w c.args.pic_h c.plane_config-c.result _ _ _ _ c.clamp-column.ensures c.clamp-row.ensures (sized c.before.before.before)
+    small c.args.t c.args.pic.w c.args.pic.h c.plane_config-c.result _ _ _ _ c.clamp-column.ensures c.clamp-row.ensures (sized c.before.before.before)
 
 pub returns : goal.returns
 returns c =

@@ -1,7 +1,7 @@
--- `evc_plane::xorigin` meets its contract. Assumes nothing.
+-- `evc_plane::PlaneType::xorigin` meets its contract. Assumes nothing.
 use mathlib.Core.Path.{sym, ap}
 use Rattle.evc_plane.specs.Planes.{origin_of}
-use Rattle.evc_plane.proofs.xorigin.Goals as goal
+use Rattle.evc_plane.proofs.PlaneType.xorigin.Goals as goal
 
 pub returns-in-Y : goal.returns-in-Y
 unfolding origin_of
