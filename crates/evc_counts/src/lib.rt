@@ -1,13 +1,14 @@
 #![tactic(auto)]
 
 ghost use Rattle.std.specs.Prelude.{◌≡◌};
-ghost use Rattle.evc_counts.specs.Counts.{nothing_counted, ◌plus◌, one_if, counts_of};
+ghost use Rattle.evc_clip.specs.Clip.{number_of};
+ghost use Rattle.evc_counts.specs.Counts.{◌plus◌, one_if, counts_of};
 ghost use Rattle.evc_counts.specs.Inner.{AtMost};
 
-use evc_clip::{EvcMoved, MOVED_HIGH, MOVED_LOW};
+use evc_clip::{EvcMoved, Moved};
 
 // How often clipping moved a component to each side.
-#[derive(Clone, Copy)]
+#[derive(Clone, Copy, Default)]
 pub struct MovedCounts {
     pub across_low: u64,
     pub across_high: u64,
@@ -15,36 +16,22 @@ pub struct MovedCounts {
     pub down_high: u64,
 }
 
-fn one_if(moved: u8, side: u8) -> u64
-    ensures { result ≡ one_if moved side }
+fn one_if(moved: u8, side: Moved) -> u64
+    ensures { result ≡ one_if moved (number_of side) }
 {
-    if moved == side {
-        return 1;
-    }
-    0
+    u64::from(moved == side as u8)
 }
 
 impl MovedCounts {
-    pub fn none() -> MovedCounts
-        ensures { result ≡ nothing_counted }
-    {
-        MovedCounts {
-            across_low: 0,
-            across_high: 0,
-            down_low: 0,
-            down_high: 0,
-        }
-    }
-
     fn with(self, m: EvcMoved) -> MovedCounts
         requires { AtMost 18446744073709551614 self }
         ensures { result ≡ self plus counts_of m }
     {
         MovedCounts {
-            across_low: self.across_low + one_if(m.x, MOVED_LOW),
-            across_high: self.across_high + one_if(m.x, MOVED_HIGH),
-            down_low: self.down_low + one_if(m.y, MOVED_LOW),
-            down_high: self.down_high + one_if(m.y, MOVED_HIGH),
+            across_low: self.across_low + one_if(m.x, Moved::Low),
+            across_high: self.across_high + one_if(m.x, Moved::High),
+            down_low: self.down_low + one_if(m.y, Moved::Low),
+            down_high: self.down_high + one_if(m.y, Moved::High),
         }
     }
 

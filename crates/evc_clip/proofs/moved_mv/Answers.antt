@@ -1,5 +1,5 @@
 -- `evc_clip::moved_mv` meets its contract. Assumes nothing.
-use mathlib.Core.Path.{◌≡◌, refl, ◌∙◌}
+use mathlib.Core.Path.{◌≡◌, ◌∙◌}
 use Prim.Native.Nat.{ℕ}
 use borrow.Author.Rules.{rules}
 use mir.Facts.{to_z-of_z}
@@ -7,11 +7,8 @@ use mir.Syntax.{w16}
 use mir.Val.{SFits}
 use Rattle.evc_def.specs.declared.EvcBlock.{EvcBlock}
 use Rattle.evc_def.specs.declared.EvcMv.{EvcMv}
-use denote.Enum.Declared.{tag_of}
-use Rattle.evc_clip.specs.Clip.{number_of, moved_component, moved_mv}
-use Rattle.evc_clip.specs.contracts.Moved.{the_type}
-use Rattle.evc_clip.specs.declared.Moved.{Moved}
-use Rattle.evc_clip.specs.declared.Moved.TheVariants.{No, Low, High}
+use Rattle.evc_clip.specs.Clip.{moved_component, moved_mv}
+use Rattle.evc_clip.proofs.Numbers.{by_number}
 use Rattle.evc_clip.proofs.moved_mv.Goals as goal
 use Rattle.evc_clip.proofs.moved_mv.Lts as place
 use Rattle.evc_clip.proofs.moved_mv.Reads.{Pre, Post}
@@ -21,11 +18,6 @@ fits : (s : place.Start claims Pre Post) → SFits w16 s.args.mv.x × SFits w16 
 fits s = (search rules, search rules)
 
 -- the record that is made is the one that the definition names
-by_number : (m : Moved) → tag_of the_type m ≡ number_of m
-by_number No = refl
-by_number Low = refl
-by_number High = refl
-
 made : (b : EvcBlock) (mv : EvcMv) (x y : ℕ) → x ≡ moved_component b.pic_w b.x b.w mv.x → y ≡ moved_component b.pic_h b.y b.h mv.y → record { x = x; y = y } ≡ moved_mv b mv
 unfolding moved_mv
 made b mv x y p q = rw (p, q)

@@ -1,20 +1,16 @@
 -- `evc_counts::one_if` meets its contract. Assumes nothing.
-use mathlib.Core.Path.{◌≡◌}
-use Prim.Native.Nat.{ℕ}
-use borrow.Author.Tests.{eq-eqb, ne_eqb}
+use mathlib.Core.Bool.{Bool, true, false, cond}
+use mathlib.Core.Path.{◌≡◌, refl, ap, ◌∙◌}
+use lib.Dec.{eqb}
+use mir.Val.{bool_byte}
+use Rattle.evc_clip.proofs.Numbers.{by_number}
 use Rattle.evc_counts.specs.Counts.{one_if}
 use Rattle.evc_counts.proofs.one_if.Goals as goal
 
-one : (moved side : ℕ) → moved ≡ side → 1 ≡ one_if moved side
-unfolding one_if
-one moved side e = rw (eq-eqb moved side e)
-
-zero : (moved side : ℕ) → (moved ≡ side → ⊥) → 0 ≡ one_if moved side
-unfolding one_if
-zero moved side n = rw (ne_eqb moved side n)
-
-pub returns-then-moved-side : goal.returns-then-moved-side
-returns-then-moved-side c = one _ _ c.if-moved-side.true
+one_or_0 : (t : Bool) → bool_byte t ≡ cond t 1 0
+one_or_0 true = refl
+one_or_0 false = refl
 
 pub returns : goal.returns
-returns c = zero _ _ c.if-moved-side.false
+unfolding one_if
+returns c = c.from.ensures ∙ ap (λ n. bool_byte (eqb c.args.moved n)) (by_number c.args.side) ∙ one_or_0 _
