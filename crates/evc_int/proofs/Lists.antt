@@ -1,4 +1,4 @@
--- Laws of lists with a row or a block of elements replaced (`with_row`, `withBlock`): the turns of a loop, what stands at each place, and blocks
+-- Laws of lists with a row or a block of elements replaced (`with_row`, `with_block`): the turns of a loop, what stands at each place, and blocks
 -- written one after the other. Assumes nothing.
 use Prim.Native.Nat.{ℕ, zero, suc, ◌+◌, ◌-◌, ◌*◌, ◌<◌, ◌≤◌}
 use mathlib.Core.Bool.{Bool, true, false}

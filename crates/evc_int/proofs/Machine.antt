@@ -1,4 +1,4 @@
--- Machine numbers: a signed value of width w stands in a goal as `to_z w (of_z w z)`. Its reading, what an operation asks of it (`fit`, `to-unsigned`),
+-- Machine numbers: a signed value of width w stands in a goal as `to_z w (of_z w z)`. Its reading, what an operation asks of it (`fit`, `to_unsigned`),
 -- and the range of each signed value in scope for omega (`omega signed`). Assumes nothing.
 use mathlib.Core.Bool.{Bool, true, ◌&&◌}
 use mathlib.Core.List.{List, [], ◌∷◌}

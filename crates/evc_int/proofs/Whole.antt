@@ -7,7 +7,11 @@ use native.Mathlib.Omega.{arith}
 use native.Mathlib.Nat.{mul-le-mul}
 use lib.IntN.{ℤ, pos, negsuc, neg_ℤ, ◌+ℤ◌, ◌-ℤ◌, ◌*ℤ◌, sub_ℕ, nat_abs}
 use lib.Signed.{lt_z, le_z, ◌≤ℤ◌}
+use borrow.Author.Tests.{eq-eqb}
 use lib.Dec.{T, ltb, ltb→lt, nltb→le, leb, leb→le, nleb→lt, eqb→eq}
+use Rattle.std.specs.Ordering.{int_eq}
+use Rattle.std.specs.Cmp.{signed_Decides}
+use Rattle.std.specs.Bool.{Decides}
 use Rattle.evc_int.specs.Whole.{◌⁺, ◌⁻, eq_z}
 
 pub record Is (z : ℤ) (a b : ℕ) : Type 0 where
@@ -97,6 +101,19 @@ eq_z-true (pos a) (pos b) e = ap pos (eqb→eq a b (subst T (sym e) tt))
 eq_z-true (pos a) (negsuc b) e = absurd (subst T (sym e) tt)
 eq_z-true (negsuc a) (pos b) e = absurd (subst T (sym e) tt)
 eq_z-true (negsuc a) (negsuc b) e = ap negsuc (eqb→eq a b (subst T (sym e) tt))
+
+-- the equality that a derive makes of signed numbers is that of the definitions
+pub int_eq_is : (x y : ℤ) → int_eq x y ≡ eq_z x y
+int_eq_is x y = go (int_eq x y) (eq_z x y) (signed_Decides x y) (eq_z-true x y) (eq_z-same x y)
+  where
+    go : (s t : Bool) → Decides s (x ≡ y) → (t ≡ true → x ≡ y) → (x ≡ y → t ≡ true) → s ≡ t
+    go true t d f g = sym (g (d.0 refl))
+    go false true d f g = d.1 (f refl)
+    go false false d f g = refl
+
+    eq_z-same : (x y : ℤ) → x ≡ y → eq_z x y ≡ true
+    eq_z-same (pos a) y e = rw (sym e) (eq-eqb a a refl)
+    eq_z-same (negsuc a) y e = rw (sym e) (eq-eqb a a refl)
 
 pub as_pos : {z : ℤ} {a b : ℕ} → Is z a b → (n : ℕ) → a ≡ n + b → z ≡ pos n
 as_pos p n h = same p (nat n) (omega arith)

@@ -1,13 +1,14 @@
 #![tactic(auto)]
 
 ghost use Rattle.std.specs.Prelude.{◌≡◌, ◌++◌, ◌+◌, ◌≤◌, length};
+ghost use Rattle.evc_def.specs.Refusals.{code_of};
 ghost use Rattle.evc_bytes.specs.Bytes.{bytes_of};
 ghost use Rattle.evc_bytes.specs.Inner.{written};
 ghost use Rattle.evc_trace.specs.Format.{version, count_len, header_len, mark, header_bytes, is_trace, header_of, overwritten, write_header_code, write_header_after};
-ghost use Rattle.evc_trace.specs.Format.{record_len, mv_of, mv_bytes, record_bytes, record_of, is_zero_mv, is_well_formed, write_record_code, write_record_after};
+ghost use Rattle.evc_trace.specs.Format.{record_len, mv_of, mv_bytes, record_bytes, record_of, number_of, is_well_formed, write_record_code, write_record_after};
 ghost use Rattle.evc_trace.specs.declared.TraceHeader.{TraceHeader};
 
-use evc_def::EvcMv;
+use evc_def::{EvcMv, Picture, Refusal};
 
 pub const HEADER_LEN: usize = 13;
 
@@ -37,6 +38,29 @@ pub struct EvcTraceRecord {
     pub mv1: EvcMv,
     pub poc0: u16,
     pub poc1: u16,
+}
+
+// What a record's block is predicted from, by the numbers of its kind.
+#[derive(Clone, Copy, PartialEq, Eq)]
+pub enum Kind {
+    List0,
+    List1,
+    Both,
+    Direct,
+}
+
+impl EvcTraceRecord {
+    pub fn kind(self) -> Kind
+        requires { self.kind ≤ 3 }
+        ensures { number_of result ≡ self.kind }
+    {
+        match self.kind {
+            0 => Kind::List0,
+            1 => Kind::List1,
+            2 => Kind::Both,
+            _ => Kind::Direct,
+        }
+    }
 }
 
 // ---- fields
@@ -69,17 +93,11 @@ fn mv_at(s: &[u8], at: usize) -> EvcMv
 
 // ---- form
 
-fn is_zero_mv(mv: EvcMv) -> bool
-    ensures { result ≡ is_zero_mv mv }
-{
-    (mv.x == 0) & (mv.y == 0)
-}
-
 pub fn is_well_formed(r: EvcTraceRecord) -> bool
     ensures { result ≡ is_well_formed r }
 {
-    let zero0 = is_zero_mv(r.mv0);
-    let zero1 = is_zero_mv(r.mv1);
+    let zero0 = r.mv0 == EvcMv::default();
+    let zero1 = r.mv1 == EvcMv::default();
     (r.kind <= 3)
         & ((r.kind != 0) | (zero1 & (r.poc1 == 0)))
         & ((r.kind != 1) | (zero0 & (r.poc0 == 0)))
@@ -165,44 +183,40 @@ fn put_record(r: EvcTraceRecord, out: &mut [u8])
     evc_bytes::put_u8(out, 21, 0);
 }
 
-pub fn evc_trace_write_header(
+pub fn write_header(
     pic_w: u32,
     pic_h: u32,
     poc: u16,
     list_poc0: u16,
     out: &mut [u8],
-) -> u32
-    ensures value { result ≡ write_header_code pic_w pic_h out.old }
+) -> Result<(), Refusal>
+    ensures value { code_of result ≡ write_header_code pic_w pic_h out.old }
     ensures out_after { out.new ≡ write_header_after (record { pic_w = pic_w; pic_h = pic_h; poc = poc; list_poc0 = list_poc0 }) out.old }
 {
-    if evc_def::bad_picture(pic_w, pic_h) {
-        return 1;
-    }
+    let pic = Picture::new(pic_w, pic_h)?;
     if out.len() < HEADER_LEN {
-        return 4;
+        return Err(Refusal::Buffer);
     }
-    put_header(pic_w as u16, pic_h as u16, poc, list_poc0, out);
-    0
+    put_header(pic.w as u16, pic.h as u16, poc, list_poc0, out);
+    Ok(())
 }
 
-pub fn evc_trace_write_record(
+pub fn write_record(
     pic_w: u32,
     pic_h: u32,
     trace_record: EvcTraceRecord,
     out: &mut [u8],
-) -> u32
-    ensures value { result ≡ write_record_code pic_w pic_h trace_record out.old }
+) -> Result<(), Refusal>
+    ensures value { code_of result ≡ write_record_code pic_w pic_h trace_record out.old }
     ensures out_after { out.new ≡ write_record_after pic_w pic_h trace_record out.old }
 {
-    if evc_def::bad_picture(pic_w, pic_h) {
-        return 1;
-    }
+    Picture::new(pic_w, pic_h)?;
     if out.len() < RECORD_LEN {
-        return 4;
+        return Err(Refusal::Buffer);
     }
     if !is_well_formed(trace_record) {
-        return 12;
+        return Err(Refusal::Record);
     }
     put_record(trace_record, out);
-    0
+    Ok(())
 }
