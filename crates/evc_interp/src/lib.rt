@@ -1,8 +1,8 @@
 #![tactic(auto)]
 
-ghost use Rattle.std.specs.Prelude.{◌≡◌, true, false, ◌||◌, ltb, ◌+◌, ◌*◌, ◌<◌, ◌≤◌, pos, length};
+ghost use Rattle.std.specs.Prelude.{◌≡◌, true, ◌||◌, ltb, ◌+◌, ◌*◌, ◌<◌, ◌≤◌, pos, length};
 ghost use Rattle.evc_int.specs.Lists.{with_block};
-ghost use Rattle.evc_def.specs.Blocks.{bad_picture};
+ghost use Rattle.evc_def.specs.Refusals.{code_of};
 ghost use Rattle.evc_def.specs.Places.{given_place};
 ghost use Rattle.evc_plane.specs.Planes.{plane_len};
 ghost use Rattle.evc_filter.specs.Filter.{lead};
@@ -10,7 +10,7 @@ ghost use Rattle.evc_interp.specs.Prediction.{phase_of, pel_of, is_filtered, sta
 ghost use Rattle.evc_interp.specs.declared.Position.{Position};
 ghost use Rattle.evc_interp.specs.Inner.{position_of, Readable, sample_from};
 
-use evc_def::{EvcMv, Pel, Qpel, QpelPlace};
+use evc_def::{EvcMv, Pel, Picture, Qpel, QpelPlace, Refusal};
 use evc_plane::PlaneType;
 
 // ---- path, phase and whole sample
@@ -37,7 +37,7 @@ fn phase(t: PlaneType, z: Qpel) -> usize
 fn is_filtered(t: PlaneType, mv: i16) -> bool
     ensures { result ≡ is_filtered t mv }
 {
-    phase(t, Qpel::new(mv)) != 0
+    phase(t, Qpel::from(mv)) != 0
 }
 
 fn lead(t: PlaneType) -> i32
@@ -56,14 +56,12 @@ fn start(t: PlaneType, filtered: bool, z: Qpel) -> Pel
     if filtered { Pel(at.0 - lead(t)) } else { at }
 }
 
-fn window(t: PlaneType, pic_w: u32, pic_h: u32, across: bool, down: bool, gmv: QpelPlace) -> usize
-    requires { bad_picture pic_w pic_h ≡ false }
-    ensures { result ≡ window_of t pic_w pic_h across down gmv }
+fn window(t: PlaneType, pic: Picture, across: bool, down: bool, gmv: QpelPlace) -> usize
+    ensures { result ≡ window_of t pic.w pic.h across down gmv }
 {
     evc_plane::window_start(
         t,
-        pic_w,
-        pic_h,
+        pic,
         start(t, across, gmv.x),
         start(t, down, gmv.y),
     )
@@ -80,16 +78,15 @@ pub struct Position {
     pub dy: usize,
 }
 
-pub fn position_of(t: PlaneType, pic_w: u32, pic_h: u32, ori_mv: EvcMv, gmv: QpelPlace) -> Position
-    requires { bad_picture pic_w pic_h ≡ false }
-    ensures { result ≡ position_of t pic_w pic_h ori_mv gmv }
+pub fn position_of(t: PlaneType, pic: Picture, ori_mv: EvcMv, gmv: QpelPlace) -> Position
+    ensures { result ≡ position_of t pic.w pic.h ori_mv gmv }
 {
-    let c = evc_plane::plane_config(t, pic_w, pic_h);
+    let c = evc_plane::plane_config(t, pic);
     let across = is_filtered(t, ori_mv.x);
     let down = is_filtered(t, ori_mv.y);
     Position {
         stride: c.stride,
-        at: window(t, pic_w, pic_h, across, down, gmv),
+        at: window(t, pic, across, down, gmv),
         across,
         down,
         dx: phase(t, gmv.x),
@@ -141,25 +138,33 @@ fn is_chroma_side(n: u32) -> bool
     evc_def::is_block_side(2 * n)
 }
 
+fn is_side(t: PlaneType, n: u32) -> bool
+    ensures { result ≡ is_side t n }
+{
+    match t {
+        PlaneType::Y => evc_def::is_block_side(n),
+        PlaneType::UV => is_chroma_side(n),
+    }
+}
+
 // On every path the window of both directions is examined.
 pub fn window_exceeds(
     t: PlaneType,
-    pic_w: u32,
-    pic_h: u32,
+    pic: Picture,
     gmv: QpelPlace,
     w: u32,
     h: u32,
     plane: &[u16],
 ) -> bool
-    requires pic_h_value { (bad_picture pic_w pic_h ≡ false) × (is_side t w ≡ true) × (is_side t h ≡ true) }
-    requires pic_h_in_bounds { plane_len t pic_w pic_h ≤ length plane.now }
-    ensures { result ≡ window_exceeds t pic_w pic_h gmv w h plane.now }
+    requires sides { (is_side t w ≡ true) × (is_side t h ≡ true) }
+    requires long_enough { plane_len t pic.w pic.h ≤ length plane.now }
+    ensures { result ≡ window_exceeds t pic.w pic.h gmv w h plane.now }
 {
-    let c = evc_plane::plane_config(t, pic_w, pic_h);
+    let c = evc_plane::plane_config(t, pic);
     let more = evc_paths::rows_more(t);
     evc_samples::window_exceeds(
         plane,
-        window(t, pic_w, pic_h, true, true, gmv),
+        window(t, pic, true, true, gmv),
         c.stride,
         w as usize + more,
         h as usize + more,
@@ -169,99 +174,64 @@ pub fn window_exceeds(
 // The same of two planes with one window: cb and cr.
 pub fn windows_exceed(
     t: PlaneType,
-    pic_w: u32,
-    pic_h: u32,
+    pic: Picture,
     gmv: QpelPlace,
     w: u32,
     h: u32,
     u: &[u16],
     v: &[u16],
 ) -> bool
-    requires pic_h_value { (bad_picture pic_w pic_h ≡ false) × (is_side t w ≡ true) × (is_side t h ≡ true) }
-    requires pic_h_in_bounds { (plane_len t pic_w pic_h ≤ length u.now) × (plane_len t pic_w pic_h ≤ length v.now) }
-    ensures { result ≡ window_exceeds t pic_w pic_h gmv w h u.now || window_exceeds t pic_w pic_h gmv w h v.now }
+    requires sides { (is_side t w ≡ true) × (is_side t h ≡ true) }
+    requires long_enough { (plane_len t pic.w pic.h ≤ length u.now) × (plane_len t pic.w pic.h ≤ length v.now) }
+    ensures { result ≡ window_exceeds t pic.w pic.h gmv w h u.now || window_exceeds t pic.w pic.h gmv w h v.now }
 {
-    let c = evc_plane::plane_config(t, pic_w, pic_h);
+    let c = evc_plane::plane_config(t, pic);
     let more = evc_paths::rows_more(t);
-    let at = window(t, pic_w, pic_h, true, true, gmv);
+    let at = window(t, pic, true, true, gmv);
     let n = w as usize + more;
     let m = h as usize + more;
     evc_samples::window_exceeds(u, at, c.stride, n, m)
         | evc_samples::window_exceeds(v, at, c.stride, n, m)
 }
 
-fn is_short(t: PlaneType, pic_w: u32, pic_h: u32, w: u32, h: u32, plane: usize, pred: usize) -> bool
-    requires { (bad_picture pic_w pic_h ≡ false) × (w * h ≤ 4096) }
-    ensures { result ≡ ltb plane (plane_len t pic_w pic_h) || ltb pred (w * h) }
+fn is_short(t: PlaneType, pic: Picture, w: u32, h: u32, plane: usize, pred: usize) -> bool
+    requires { w * h ≤ 4096 }
+    ensures { result ≡ ltb plane (plane_len t pic.w pic.h) || ltb pred (w * h) }
 {
-    (plane < evc_plane::plane_len(t, pic_w, pic_h)) | (pred < (w * h) as usize)
+    (plane < evc_plane::plane_len(t, pic)) | (pred < (w * h) as usize)
 }
 
-// Two calls, as in the Rust: the sizes of each plane are then constants.
-fn evc_mc_l(
-    pic_w: u32,
-    pic_h: u32,
+// One plane of one type. Built into the call for each type, where its sizes are constants.
+#[inline(always)]
+fn mc_plane(
+    t: PlaneType,
+    pic: Picture,
     ori_mv: EvcMv,
     gmv: QpelPlace,
     w: u32,
     h: u32,
     plane: &[u16],
     pred: &mut [u16],
-) -> u32
-    requires { bad_picture pic_w pic_h ≡ false }
-    ensures value { result ≡ mc_plane_code PlaneType.Y pic_w pic_h gmv w h plane.now pred.old }
-    ensures pred_after { pred.new ≡ mc_plane_after PlaneType.Y pic_w pic_h ori_mv gmv w h plane.now pred.old }
+) -> Result<(), Refusal>
+    ensures value { code_of result ≡ mc_plane_code t pic.w pic.h gmv w h plane.now pred.old }
+    ensures pred_after { pred.new ≡ mc_plane_after t pic.w pic.h ori_mv gmv w h plane.now pred.old }
 {
-    let t = PlaneType::Y;
-    if !(evc_def::is_block_side(w) & evc_def::is_block_side(h)) {
-        return 2;
+    if !(is_side(t, w) & is_side(t, h)) {
+        return Err(Refusal::Block);
     }
-    if is_short(t, pic_w, pic_h, w, h, plane.len(), pred.len()) {
-        return 4;
+    if is_short(t, pic, w, h, plane.len(), pred.len()) {
+        return Err(Refusal::Buffer);
     }
-    let p = position_of(t, pic_w, pic_h, ori_mv, gmv);
-    if window_exceeds(t, pic_w, pic_h, gmv, w, h, plane) {
-        return 6;
+    let p = position_of(t, pic, ori_mv, gmv);
+    if window_exceeds(t, pic, gmv, w, h, plane) {
+        return Err(Refusal::Sample);
     }
     let w = w as usize;
     let h = h as usize;
     predict(
         t, p.stride, p.at, p.across, p.down, p.dx, p.dy, w, h, plane, pred,
     );
-    0
-}
-
-fn evc_mc_c(
-    pic_w: u32,
-    pic_h: u32,
-    ori_mv: EvcMv,
-    gmv: QpelPlace,
-    w: u32,
-    h: u32,
-    plane: &[u16],
-    pred: &mut [u16],
-) -> u32
-    requires { bad_picture pic_w pic_h ≡ false }
-    ensures value { result ≡ mc_plane_code PlaneType.UV pic_w pic_h gmv w h plane.now pred.old }
-    ensures pred_after { pred.new ≡ mc_plane_after PlaneType.UV pic_w pic_h ori_mv gmv w h plane.now pred.old }
-{
-    let t = PlaneType::UV;
-    if !(is_chroma_side(w) & is_chroma_side(h)) {
-        return 2;
-    }
-    if is_short(t, pic_w, pic_h, w, h, plane.len(), pred.len()) {
-        return 4;
-    }
-    let p = position_of(t, pic_w, pic_h, ori_mv, gmv);
-    if window_exceeds(t, pic_w, pic_h, gmv, w, h, plane) {
-        return 6;
-    }
-    let w = w as usize;
-    let h = h as usize;
-    predict(
-        t, p.stride, p.at, p.across, p.down, p.dx, p.dy, w, h, plane, pred,
-    );
-    0
+    Ok(())
 }
 
 pub fn evc_mc_plane(
@@ -274,19 +244,17 @@ pub fn evc_mc_plane(
     h: u32,
     plane: &[u16],
     pred: &mut [u16],
-) -> u32
-    ensures value { result ≡ mc_plane_code t pic_w pic_h (given_place gmv) w h plane.now pred.old }
+) -> Result<(), Refusal>
+    ensures value { code_of result ≡ mc_plane_code t pic_w pic_h (given_place gmv) w h plane.now pred.old }
     ensures pred_after { pred.new ≡ mc_plane_after t pic_w pic_h ori_mv (given_place gmv) w h plane.now pred.old }
 {
-    if evc_def::bad_picture(pic_w, pic_h) {
-        return 1;
-    }
+    let pic = Picture::new(pic_w, pic_h)?;
     let place = QpelPlace {
-        x: Qpel::new(gmv.x),
-        y: Qpel::new(gmv.y),
+        x: Qpel::from(gmv.x),
+        y: Qpel::from(gmv.y),
     };
     match t {
-        PlaneType::Y => evc_mc_l(pic_w, pic_h, ori_mv, place, w, h, plane, pred),
-        PlaneType::UV => evc_mc_c(pic_w, pic_h, ori_mv, place, w, h, plane, pred),
+        PlaneType::Y => mc_plane(PlaneType::Y, pic, ori_mv, place, w, h, plane, pred),
+        PlaneType::UV => mc_plane(PlaneType::UV, pic, ori_mv, place, w, h, plane, pred),
     }
 }

@@ -11,4 +11,4 @@ use Rattle.evc_interp.proofs.is_filtered.Goals as goal
 pub returns : goal.returns
 unfolding is_filtered
 returns c =
-    ap (λ (c : ℕ). not (eqb c 0)) (c.phase.ensures ∙ ap (λ (z : ℤ). phase_of c.args.t z) (c.new.ensures ∙ to_z-of_z c.ranges.mv))
+    ap (λ (c : ℕ). not (eqb c 0)) (c.phase.ensures ∙ ap (λ (z : ℤ). phase_of c.args.t z) (c.from.ensures ∙ to_z-of_z c.ranges.mv))

@@ -9,4 +9,4 @@ pub returns : goal.returns
 unfolding window_of
 returns c =
     let a = c.args in
-    c.window_start.ensures ∙ ap₂ (λ (i j : ℤ). window_start a.t a.pic_w a.pic_h i j) c.start.ensures c.start-2.ensures
+    c.window_start.ensures ∙ ap₂ (λ (i j : ℤ). window_start a.t a.pic.w a.pic.h i j) c.start.ensures c.start-2.ensures
