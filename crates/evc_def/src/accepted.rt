@@ -2,6 +2,7 @@
 
 ghost use Rattle.std.specs.Prelude.{◌≡◌, ◌≤◌, false};
 ghost use Rattle.evc_def.specs.Blocks.{bad_picture, Allowed};
+ghost use Rattle.evc_def.specs.Codes.{first_of, block_checks};
 
 use super::{EvcBlock, Refusal};
 
@@ -56,6 +57,7 @@ impl Span {
 pub struct Block {
     pub given: EvcBlock,
     pub ghost accepted: { bad_picture given.pic_w given.pic_h ≡ false },
+    pub ghost checked: { first_of (block_checks given) ≡ 0 },
     pub ghost across: { Allowed given.pic_w given.x given.w },
     pub ghost down: { Allowed given.pic_h given.y given.h },
 }

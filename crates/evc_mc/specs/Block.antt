@@ -1,11 +1,13 @@
 -- Document 01, 'Block': the prediction of a block from one or two lists, evc_mc2.
-use Rattle.std.specs.Prelude.{Bool, not, cond, ◌&&◌, ◌||◌, List, [], ◌∷◌, ◌++◌, ◌≡◌, ℕ, ◌+◌, ◌/◌, eqb, ltb, length, get_or}
+use Rattle.std.specs.Prelude.{Bool, not, cond, ◌&&◌, ◌||◌, List, [], ◌∷◌, ◌++◌, ◌≡◌, ℕ, ◌+◌, ◌/◌, eqb, ltb, length, get_or, Result, Ok, Err}
 use Rattle.evc_int.specs.Whole.{eq_z}
 use Rattle.evc_int.specs.Lists.{with_block}
 use Rattle.evc_def.specs.Blocks.{max_poc}
 use Rattle.evc_def.specs.Codes.{◌when◌, first_of, block_checks}
 use Rattle.evc_def.specs.Tables.{tbl_cu_dim_offset}
 use Rattle.evc_def.specs.declared.EvcBlock.{EvcBlock}
+use Rattle.evc_def.specs.declared.refusal.Refusal.{Refusal}
+use Rattle.evc_def.specs.Refusals.{number_of}
 use Rattle.evc_plane.specs.Planes.{side_of, plane_len}
 use Rattle.evc_plane.specs.declared.PlaneType.{PlaneType}
 use Rattle.evc_plane.specs.declared.PlaneType.TheVariants.{Y, UV}
@@ -14,6 +16,7 @@ use Rattle.evc_clip.specs.declared.EvcMoved.{EvcMoved}
 use Rattle.evc_interp.specs.Prediction.{predicted, window_exceeds}
 use Rattle.evc_mc.specs.declared.EvcList.{EvcList}
 use Rattle.evc_mc.specs.declared.EvcPredicted.{EvcPredicted}
+use Rattle.evc_mc.specs.declared.ListsMoved.{ListsMoved}
 
 -- a list: whether it is in use, its vector and count, and the three planes of its picture
 pub record RefPicList : Type 0 where
@@ -135,6 +138,11 @@ answered code b l m =
 -- what the call returns
 abbrev pub mc2_answer : EvcBlock → RefPicList → RefPicList → List ℕ → List ℕ → EvcPredicted
 mc2_answer b l m pred0 pred1 = answered (mc2_code b l m pred0 pred1) b l.list m.list
+
+-- an answer as the call returns it
+abbrev pub answer_of : Result ListsMoved Refusal → EvcPredicted
+answer_of (Ok m) = record { code = 0; moved0 = m.moved0; moved1 = m.moved1 }
+answer_of (Err r) = record { code = number_of r; moved0 = nothing_moved; moved1 = nothing_moved }
 
 -- the first block after the call
 unfoldable pub mc2_first : EvcBlock → RefPicList → RefPicList → List ℕ → List ℕ → List ℕ

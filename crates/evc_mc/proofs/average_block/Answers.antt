@@ -13,9 +13,6 @@ use Rattle.evc_mc.specs.Inner.{block_sample, RowSmall, BlockSmall}
 use Rattle.evc_mc.proofs.Checks.{Sides, sides}
 use Rattle.evc_mc.proofs.Samples.{size_of, component_room}
 use Rattle.evc_mc.proofs.average_block.Goals as goal
-use Rattle.evc_mc.proofs.average_block.Lts as place
-use Rattle.evc_mc.proofs.average_block.Reads.{Pre, Post}
-use Rattle.evc_mc.proofs.average_block.Tie.{the-claims as claims, handed_clauses as clauses}
 
 -- a component's samples as one run
 row_small : (b : EvcBlock) (d : List ℕ) (c : Component) (o : ℕ) → o ≡ offset_of c → BlockSmall b d → RowSmall d o (size_of b c)
@@ -61,34 +58,31 @@ module _ (b : EvcBlock) (p q : List ℕ) where
       ∙ plane cr d₂ r er (λ i. behind d₂ d₁ o (size_of b cb) r _ e₂ (omega arith) i ∙ behind d₁ p 0 (size_of b luma) r _ e₁ (omega arith) i)
       ∙ ap (with_component b cr (mean cr)) (e₂ ∙ plane cb d₁ o eo (λ i. behind d₁ p 0 (size_of b luma) o _ e₁ (omega arith) i) ∙ ap (with_component b cb (mean cb)) (e₁ ∙ plane luma p 0 refl (λ i. refl)))
 
-known : (s : place.Start claims Pre Post clauses) → Sides s.args.b
-known s = sides s.args.b s.requires.b_value.0
-
 pub average_plane-requires : goal.average_plane-requires
 average_plane-requires c =
-    let b = c.args.b in
-    let r = component_room b (known c.before.before.before.before.before.before.before.before) luma in record { n_in_bounds = (omega (arith, c.requires.b_value.1), omega (arith, c.requires.b_value.2)); row_small = (row_small b c.args.pred0.now luma 0 refl c.requires.block_small.0, row_small b c.args.pred1.now luma 0 refl c.requires.block_small.1) }
+    let b = c.args.b.given in
+    let r = component_room b (sides b c.args.b.checked) luma in record { n_in_bounds = (omega (arith, c.requires.long_enough.0), omega (arith, c.requires.long_enough.1)); row_small = (row_small b c.args.pred0.now luma 0 refl c.requires.block_small.0, row_small b c.args.pred1.now luma 0 refl c.requires.block_small.1) }
 
 pub average_plane-requires-2 : goal.average_plane-requires-2
 average_plane-requires-2 c =
-    let b = c.args.b in
-    let x = component_room b (known c.before.before.before.before.before.before.before.before.before.before.before.before) luma in
-    let r = component_room b (known c.before.before.before.before.before.before.before.before.before.before.before.before) cb in
+    let b = c.args.b.given in
+    let x = component_room b (sides b c.args.b.checked) luma in
+    let r = component_room b (sides b c.args.b.checked) cb in
     let o = c.cu_dim_offset-offset_u.ensures in
-    let k = c.average_plane in record { n_in_bounds = (omega (arith, o, k.auto.pred0, c.requires.b_value.1), omega (arith, o, c.requires.b_value.2)); row_small = (small_behind _ _ _ _ _ _ _ k.ensures (omega (arith, o)) (row_small b c.args.pred0.now cb _ o c.requires.block_small.0), row_small b c.args.pred1.now cb _ o c.requires.block_small.1) }
+    let k = c.average_plane in record { n_in_bounds = (omega (arith, o, k.auto.pred0, c.requires.long_enough.0), omega (arith, o, c.requires.long_enough.1)); row_small = (small_behind _ _ _ _ _ _ _ k.ensures (omega (arith, o)) (row_small b c.args.pred0.now cb _ o c.requires.block_small.0), row_small b c.args.pred1.now cb _ o c.requires.block_small.1) }
 
 pub average_plane-requires-3 : goal.average_plane-requires-3
 average_plane-requires-3 c =
-    let b = c.args.b in
-    let x = component_room b (known c.before.before.before.before.before.before.before.before.before.before.before.before.before.before.before.before) luma in
-    let y = component_room b (known c.before.before.before.before.before.before.before.before.before.before.before.before.before.before.before.before) cb in
-    let r = component_room b (known c.before.before.before.before.before.before.before.before.before.before.before.before.before.before.before.before) cr in
+    let b = c.args.b.given in
+    let x = component_room b (sides b c.args.b.checked) luma in
+    let y = component_room b (sides b c.args.b.checked) cb in
+    let r = component_room b (sides b c.args.b.checked) cr in
     let o = c.cu_dim_offset-offset_u.ensures in
     let q = c.cu_dim_offset-offset_v.ensures in
     let k = c.average_plane in
-    let l = c.average_plane-2 in record { n_in_bounds = (omega (arith, q, k.auto.pred0, l.auto.pred0, c.requires.b_value.1), omega (arith, q, c.requires.b_value.2)); row_small = (small_behind _ _ _ _ _ _ _ l.ensures (omega (arith, o, q)) (small_behind _ _ _ _ _ _ _ k.ensures (omega (arith, q)) (row_small b c.args.pred0.now cr _ q c.requires.block_small.0)), row_small b c.args.pred1.now cr _ q c.requires.block_small.1) }
+    let l = c.average_plane-2 in record { n_in_bounds = (omega (arith, q, k.auto.pred0, l.auto.pred0, c.requires.long_enough.0), omega (arith, q, c.requires.long_enough.1)); row_small = (small_behind _ _ _ _ _ _ _ l.ensures (omega (arith, o, q)) (small_behind _ _ _ _ _ _ _ k.ensures (omega (arith, q)) (row_small b c.args.pred0.now cr _ q c.requires.block_small.0)), row_small b c.args.pred1.now cr _ q c.requires.block_small.1) }
 
 pub returns : goal.returns
 returns c =
-    done c.args.b c.args.pred0.now c.args.pred1.now (known c.before.before.before.before.before.before.before.before.before.before.before.before.before.before.before.before.before.before.before) _ _ _ _ _ c.cu_dim_offset-offset_u.ensures c.cu_dim_offset-offset_v.ensures
+    done c.args.b.given c.args.pred0.now c.args.pred1.now (sides c.args.b.given c.args.b.checked) _ _ _ _ _ c.cu_dim_offset-offset_u.ensures c.cu_dim_offset-offset_v.ensures
     c.average_plane.ensures c.average_plane-2.ensures c.average_plane-3.ensures

@@ -6,19 +6,19 @@ use Prim.Native.Nat.{ℕ}
 use borrow.Author.Tests.{ne_eqb}
 use Rattle.evc_def.specs.Codes.{first_of, block_checks}
 use Rattle.evc_def.specs.declared.EvcBlock.{EvcBlock}
-use Rattle.evc_def.proofs.Blocks.{allowed_block}
+use Rattle.std.proofs.lemmas.Result.{err_from_is_err_and}
+use Rattle.evc_def.specs.Refusals.{number_of}
+use Rattle.evc_def.specs.declared.refusal.Refusal.{Refusal}
+use Rattle.evc_def.proofs.Refusals.{not_0}
 use Rattle.evc_def.proofs.Codes.{stops}
 use Rattle.evc_mc.specs.Block.{RefPicList, ref_pic_list, with_samples, list_sample, first_sample, is_bi, mc2_code, mc2_first, mc2_second}
 use Rattle.evc_mc.proofs.Answers.{silent, reports}
 use Rattle.evc_mc.proofs.evc_mc2.Goals as goal
-use Rattle.evc_mc.proofs.evc_mc2.Lts as place
-use Rattle.evc_mc.proofs.evc_mc2.Reads.{Pre, Post}
-use Rattle.evc_mc.proofs.evc_mc2.Tie.{the-claims as claims, handed_clauses as clauses}
 
 module _ (b : EvcBlock) (l m : RefPicList) (p q : List ℕ) where
-  block_refused : (code : ℕ) → code ≡ first_of (block_checks b) → (code ≡ 0 → ⊥) → code ≡ mc2_code b l m p q
+  block_refused : (r : Refusal) → number_of r ≡ first_of (block_checks b) → number_of r ≡ mc2_code b l m p q
   unfolding mc2_code
-  block_refused code e n = e ∙ sym (stops (block_checks b) _ (λ z. n (e ∙ z)))
+  block_refused r e = e ∙ sym (stops (block_checks b) _ (λ z. not_0 r (e ∙ z)))
 
   untouched : (code : ℕ) → code ≡ mc2_code b l m p q → (code ≡ 0 → ⊥) → (p ≡ mc2_first b l m p q) × (q ≡ mc2_second b l m p q)
   unfolding mc2_first mc2_second
@@ -29,41 +29,32 @@ module _ (b : EvcBlock) (l m : RefPicList) (p q : List ℕ) where
   unfolding mc2_first mc2_second
   predicted z d e f g = rw z (f, g)
 
-pub returns-then-block_code-ne0 : goal.returns-then-block_code-ne0
-returns-then-block_code-ne0 c =
+pub returns-in_err-b : goal.returns-in_err-b
+returns-in_err-b c =
     let a = c.args in
     let l = ref_pic_list a.list0 a.y0.now a.u0.now a.v0.now in
     let m = ref_pic_list a.list1 a.y1.now a.u1.now a.v1.now in
-    let e = block_refused a.block l m a.pred0.now a.pred1.now _ c.block_code-block_code.ensures c.if-block_code-ne0.true in
-    let same = untouched a.block l m a.pred0.now a.pred1.now _ e c.if-block_code-ne0.true in
-    record { result_value = silent _ _ _ _ _ e c.if-block_code-ne0.true _ c.refused.ensures; pred0_after = same.0; pred1_after = same.1 }
+    let p = err_from_is_err_and c.from_residual.result c.from_residual.ensures.1 in
+    let e = block_refused a.block l m a.pred0.now a.pred1.now _ c.in_err-b.ensures.code in
+    let same = untouched a.block l m a.pred0.now a.pred1.now _ e (not_0 _) in
+    rw (p.1, p.2) (record { result_value = silent a.block a.list0 a.list1 _ _ e (not_0 _) _ refl; pred0_after = same.0; pred1_after = same.1 })
 
-good : (c : place.Else1 claims Pre Post clauses) → first_of (block_checks c.args.block) ≡ 0
-good c = sym c.block_code-block_code.ensures ∙ c.if-block_code-ne0.false
-
-pub returns-then-code-ne0 : goal.returns-then-code-ne0
-returns-then-code-ne0 c =
+pub returns-in_err-check_lists : goal.returns-in_err-check_lists
+returns-in_err-check_lists c =
     let a = c.args in
     let l = ref_pic_list a.list0 a.y0.now a.u0.now a.v0.now in
     let m = ref_pic_list a.list1 a.y1.now a.u1.now a.v1.now in
-    let e = c.mc2_code-code.ensures in
-    let same = untouched a.block l m a.pred0.now a.pred1.now _ e c.if-code-ne0.true in
-    record { result_value = silent _ _ _ _ _ e c.if-code-ne0.true _ c.refused-then-code-ne0.ensures; pred0_after = same.0; pred1_after = same.1 }
-
-accepted : (c : place.Else2 claims Pre Post clauses) → let a = c.args in mc2_code a.block (ref_pic_list a.list0 a.y0.now a.u0.now a.v0.now) (ref_pic_list a.list1 a.y1.now a.u1.now a.v1.now) a.pred0.now a.pred1.now ≡ 0
-accepted c = sym c.mc2_code-code.ensures ∙ c.if-code-ne0.false
+    let p = err_from_is_err_and c.from_residual-in_err-check_lists.result c.from_residual-in_err-check_lists.ensures.1 in
+    let e = (simp c.in_ok-b.ensures.value at c.in_err-check_lists.ensures) in
+    let same = untouched a.block l m a.pred0.now a.pred1.now _ e (not_0 _) in
+    rw (p.1, p.2) (record { result_value = silent a.block a.list0 a.list1 _ _ e (not_0 _) _ refl; pred0_after = same.0; pred1_after = same.1 })
 
 pub returns : goal.returns
 returns c =
     let a = c.args in
     let l = ref_pic_list a.list0 a.y0.now a.u0.now a.v0.now in
     let m = ref_pic_list a.list1 a.y1.now a.u1.now a.v1.now in
-    let ok = accepted c.before.before.before.before.before.before.before.before.before.before in
-    let same = predicted a.block l m a.pred0.now a.pred1.now ok _ _ c.predict_lists.ensures.pred0_after c.predict_lists.ensures.pred1_after in
-    record { result_value = reports _ _ _ _ _ c.mc2_code-code.ensures ok _ _ c.list_moved.ensures c.list_moved-2.ensures; pred0_after = same.0; pred1_after = same.1 }
-
-pub clipped_place-gmv0-requires : goal.clipped_place-gmv0-requires
-clipped_place-gmv0-requires c = let parts = allowed_block _ (good c.before.before) in record { allowed = parts.0; allowed_2 = parts.1 }
-
-pub clipped_place-gmv1-requires : goal.clipped_place-gmv1-requires
-clipped_place-gmv1-requires c = let parts = allowed_block _ (good c.before.before.before.before) in record { allowed = parts.0; allowed_2 = parts.1 }
+    let v = c.in_ok-b.ensures.value in
+    let ok = simp v at c.in_ok-check_lists.ensures in
+    let same = predicted a.block l m a.pred0.now a.pred1.now (sym ok) _ _ (simp v at c.predict_lists.ensures.pred0_after) (simp v at c.predict_lists.ensures.pred1_after) in
+    record { result_value = reports a.block a.list0 a.list1 _ _ ok (sym ok) _ _ (simp v at c.list_moved.ensures) (simp v at c.list_moved-2.ensures); pred0_after = same.0; pred1_after = same.1 }

@@ -10,9 +10,6 @@ use Rattle.evc_interp.specs.Prediction.{window_exceeds}
 use Rattle.evc_mc.specs.Block.{RefPicList, ref_pic_list, luma, cb, cr, width_of, height_of, component_exceeds, list_exceeds}
 use Rattle.evc_mc.proofs.Checks.{sides, plane_side, list_long}
 use Rattle.evc_mc.proofs.list_exceeds.Goals as goal
-use Rattle.evc_mc.proofs.list_exceeds.Lts as place
-use Rattle.evc_mc.proofs.list_exceeds.Reads.{Pre, Post}
-use Rattle.evc_mc.proofs.list_exceeds.Tie.{the-claims as claims, handed_clauses as clauses}
 
 module _ (b : EvcBlock) (l : RefPicList) where
   unused : l.list.used ≡ false → false ≡ list_exceeds b l
@@ -33,24 +30,21 @@ module _ (b : EvcBlock) (l : RefPicList) where
 pub returns-then-not-list : goal.returns-then-not-list
 returns-then-not-list c =
     let a = c.args in
-    unused a.b (ref_pic_list a.list a.y.now a.u.now a.v.now) (not-true _ c.if-not-list.true)
-
-used : (c : place.Else1 claims Pre Post clauses) → c.args.list.used ≡ true
-used c = not-false _ c.if-not-list.false
+    unused a.b.given (ref_pic_list a.list a.y.now a.u.now a.v.now) (not-true _ c.if-not-list.true)
 
 pub window_exceeds-requires : goal.window_exceeds-requires
 window_exceeds-requires c =
     let a = c.args in
-    let z = sides a.b c.requires.b_value.0 in record { pic_h_value = (z.picture, z.w_side, z.h_side); pic_h_in_bounds = list_long a.b (ref_pic_list a.list a.y.now a.u.now a.v.now) (used c.before.before.before) c.requires.v_value luma }
+    let z = sides a.b.given a.b.checked in record { sides = (z.w_side, z.h_side); long_enough = rw (c.picture-pic.ensures.0, c.picture-pic.ensures.1) (list_long a.b.given (ref_pic_list a.list a.y.now a.u.now a.v.now) (not-false _ c.if-not-list.false) c.requires.long_enough luma) }
 
 pub windows_exceed-requires : goal.windows_exceed-requires
 windows_exceed-requires c =
     let a = c.args in
-    let z = sides a.b c.requires.b_value.0 in
-    let l = list_long a.b (ref_pic_list a.list a.y.now a.u.now a.v.now) (used c.before.before.before.before) c.requires.v_value in record { pic_h_value = (z.picture, plane_side UV a.b.w z.w_side, plane_side UV a.b.h z.h_side); pic_h_in_bounds = (l cb, l cr) }
+    let z = sides a.b.given a.b.checked in
+    let l = list_long a.b.given (ref_pic_list a.list a.y.now a.u.now a.v.now) (not-false _ c.if-not-list.false) c.requires.long_enough in record { sides = (plane_side UV a.b.given.w z.w_side, plane_side UV a.b.given.h z.h_side); long_enough = rw (c.picture-pic.ensures.0, c.picture-pic.ensures.1) (l cb, l cr) }
 
 pub returns : goal.returns
 returns c =
     let a = c.args in
-    exceeds_is a.b (ref_pic_list a.list a.y.now a.u.now a.v.now) _ _ _ (used c.before.before.before.before.before) c.requires.b_value.1
-    c.window_exceeds.ensures c.windows_exceed.ensures
+    exceeds_is a.b.given (ref_pic_list a.list a.y.now a.u.now a.v.now) _ _ _ (not-false _ c.if-not-list.false) c.requires.gmv_value
+    (simp (c.picture-pic.ensures.0, c.picture-pic.ensures.1) at c.window_exceeds.ensures) (simp (c.picture-pic.ensures.0, c.picture-pic.ensures.1) at c.windows_exceed.ensures)

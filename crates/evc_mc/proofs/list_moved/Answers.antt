@@ -3,7 +3,6 @@ use mathlib.Core.Bool.{true, false, not}
 use mathlib.Core.Path.{◌≡◌}
 use borrow.Author.Tests.{not-false, not-true}
 use Rattle.evc_def.specs.declared.EvcBlock.{EvcBlock}
-use Rattle.evc_def.proofs.Blocks.{allowed_block}
 use Rattle.evc_clip.specs.Clip.{moved_mv, nothing_moved}
 use Rattle.evc_clip.specs.declared.EvcMoved.{EvcMoved}
 use Rattle.evc_mc.specs.Block.{list_moved}
@@ -19,11 +18,11 @@ module _ (b : EvcBlock) (l : EvcList) (r : EvcMoved) where
   unfolding list_moved
   used u e = rw (not-false l.used u) e
 
-pub returns-then-not-list : goal.returns-then-not-list
-returns-then-not-list c = not_used _ _ _ c.if-not-list.true c.nothing_moved.ensures
+zeros : (m : EvcMoved) → (m.x ≡ 0) × (m.y ≡ 0) → m ≡ nothing_moved
+zeros m e = rw (e.0, e.1)
 
-pub moved_mv-requires : goal.moved_mv-requires
-moved_mv-requires c = let parts = allowed_block _ c.requires in record { allowed = parts.0; allowed_2 = parts.1 }
+pub returns-then-not-list : goal.returns-then-not-list
+returns-then-not-list c = not_used c.args.b.given c.args.list c.default.result c.if-not-list.true (zeros _ c.default.ensures)
 
 pub returns : goal.returns
-returns c = used _ _ _ c.if-not-list.false c.moved_mv.ensures
+returns c = used c.args.b.given c.args.list _ c.if-not-list.false c.moved_mv.ensures

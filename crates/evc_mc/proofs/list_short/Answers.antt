@@ -12,4 +12,4 @@ if_used b l short e = rw e
 pub returns : goal.returns
 returns c =
     let a = c.args in
-    if_used a.b (ref_pic_list a.list a.y.now a.u.now a.v.now) _ c.planes_short.ensures
+    if_used a.b.given (ref_pic_list a.list a.y.now a.u.now a.v.now) _ (simp (c.picture.ensures.0, c.picture.ensures.1) at c.planes_short.ensures)

@@ -21,9 +21,6 @@ use Rattle.evc_mc.specs.Inner.{Examined, with_list}
 use Rattle.evc_mc.proofs.Checks.{sides, plane_accepted}
 use Rattle.evc_mc.proofs.Samples.{component_room, component_end}
 use Rattle.evc_mc.proofs.predict_list.Goals as goal
-use Rattle.evc_mc.proofs.predict_list.Lts as place
-use Rattle.evc_mc.proofs.predict_list.Reads.{Pre, Post}
-use Rattle.evc_mc.proofs.predict_list.Tie.{the-claims as claims, handed_clauses as clauses}
 
 module _ (b : EvcBlock) (l : RefPicList) where
   unused : (second : Bool) (p0 p1 : List ℕ) → l.list.used ≡ false → (p0 ≡ cond second p0 (with_list b l p0)) × (p1 ≡ cond second (with_list b l p1) p1)
@@ -79,15 +76,12 @@ module _ (b : EvcBlock) (l : RefPicList) where
 
 pub returns-then-not-list : goal.returns-then-not-list
 returns-then-not-list c =
-    let a = c.args in let parts = unused a.b (ref_pic_list a.list a.y.now a.u.now a.v.now) a.second a.pred0.now a.pred1.now (not-true _ c.if-not-list.true) in record { pred0_after = parts.0; pred1_after = parts.1 }
-
-used : (p : place.After-position_of claims Pre Post clauses) → p.args.list.used ≡ true
-used p = not-false _ p.if-not-list.false
+    let a = c.args in let parts = unused a.b.given (ref_pic_list a.list a.y.now a.u.now a.v.now) a.second a.pred0.now a.pred1.now (not-true _ c.if-not-list.true) in record { pred0_after = parts.0; pred1_after = parts.1 }
 
 pub predict_component-requires : goal.predict_component-requires
 predict_component-requires c =
     let a = c.args in
-    let r = component_room a.b (sides a.b c.requires.b_value.0) luma in record { readable = reads a.b (ref_pic_list a.list a.y.now a.u.now a.v.now) a.gmv luma _ a.pred0.now c.requires.b_value.0 (c.requires.list_examined (used c.before.before.before.before.before.before.before) luma) c.requires.pred_len_in_bounds.0 c.position_of-luma.ensures; w_in_bounds = (omega (arith, c.requires.pred_len_in_bounds.0), omega (arith, c.requires.pred_len_in_bounds.1)) }
+    let r = component_room a.b.given (sides a.b.given a.b.checked) luma in record { readable = reads a.b.given (ref_pic_list a.list a.y.now a.u.now a.v.now) a.gmv luma _ a.pred0.now a.b.checked (c.requires.list_examined (not-false _ c.if-not-list.false) luma) c.requires.pred_len_in_bounds.0 (simp (c.picture-pic.ensures.0, c.picture-pic.ensures.1) at c.position_of-luma.ensures); w_in_bounds = (omega (arith, c.requires.pred_len_in_bounds.0), omega (arith, c.requires.pred_len_in_bounds.1)) }
 
 pub predict_component-requires-2 : goal.predict_component-requires-2
 predict_component-requires-2 c =
@@ -95,7 +89,7 @@ predict_component-requires-2 c =
     let k = c.predict_component.auto in
     let o = c.cu_dim_offset-offset_u.ensures in
     let v = c.cu_dim_offset-offset_v.ensures in
-    let r = component_room a.b (sides a.b c.requires.b_value.0) cb in record { readable = reads a.b (ref_pic_list a.list a.y.now a.u.now a.v.now) a.gmv cb _ a.pred0.now c.requires.b_value.0 (c.requires.list_examined (used c.before.before.before.before.before.before.before.before.before.before.before.before.before.before) cb) c.requires.pred_len_in_bounds.0 c.position_of-chroma.ensures; w_in_bounds = (omega (arith, k.pred0, c.requires.pred_len_in_bounds.0), omega (arith, k.pred1, c.requires.pred_len_in_bounds.1)) }
+    let r = component_room a.b.given (sides a.b.given a.b.checked) cb in record { readable = reads a.b.given (ref_pic_list a.list a.y.now a.u.now a.v.now) a.gmv cb _ a.pred0.now a.b.checked (c.requires.list_examined (not-false _ c.if-not-list.false) cb) c.requires.pred_len_in_bounds.0 (simp (c.picture-pic.ensures.0, c.picture-pic.ensures.1) at c.position_of-chroma.ensures); w_in_bounds = (omega (arith, k.pred0, c.requires.pred_len_in_bounds.0), omega (arith, k.pred1, c.requires.pred_len_in_bounds.1)) }
 
 pub predict_component-requires-3 : goal.predict_component-requires-3
 predict_component-requires-3 c =
@@ -103,16 +97,10 @@ predict_component-requires-3 c =
     let k = c.predict_component.auto in
     let m = c.predict_component-2.auto in
     let o = c.cu_dim_offset-offset_v.ensures in
-    let r = component_room a.b (sides a.b c.requires.b_value.0) cr in record { readable = reads a.b (ref_pic_list a.list a.y.now a.u.now a.v.now) a.gmv cr _ a.pred0.now c.requires.b_value.0 (c.requires.list_examined (used c.before.before.before.before.before.before.before.before.before.before.before.before.before.before.before.before.before.before.before.before.before) cr) c.requires.pred_len_in_bounds.0 c.position_of-chroma.ensures; w_in_bounds = (omega (arith, k.pred0, m.pred0, c.requires.pred_len_in_bounds.0), omega (arith, k.pred1, m.pred1, c.requires.pred_len_in_bounds.1)) }
+    let r = component_room a.b.given (sides a.b.given a.b.checked) cr in record { readable = reads a.b.given (ref_pic_list a.list a.y.now a.u.now a.v.now) a.gmv cr _ a.pred0.now a.b.checked (c.requires.list_examined (not-false _ c.if-not-list.false) cr) c.requires.pred_len_in_bounds.0 (simp (c.picture-pic.ensures.0, c.picture-pic.ensures.1) at c.position_of-chroma.ensures); w_in_bounds = (omega (arith, k.pred0, m.pred0, c.requires.pred_len_in_bounds.0), omega (arith, k.pred1, m.pred1, c.requires.pred_len_in_bounds.1)) }
 
 pub returns : goal.returns
 returns c =
-    let a = c.args in let parts = done a.b (ref_pic_list a.list a.y.now a.u.now a.v.now) a.gmv c.requires.b_value.1 _ _ c.position_of-luma.ensures c.position_of-chroma.ensures a.second _ _ a.pred0.now a.pred1.now _ _ _ _ _ _ (used c.before.before.before.before.before.before.before.before.before.before.before.before.before.before.before.before.before.before.before.before.before.before.before.before.before.before)
+    let a = c.args in let parts = done a.b.given (ref_pic_list a.list a.y.now a.u.now a.v.now) a.gmv c.requires.gmv_value _ _ (simp (c.picture-pic.ensures.0, c.picture-pic.ensures.1) at c.position_of-luma.ensures) (simp (c.picture-pic.ensures.0, c.picture-pic.ensures.1) at c.position_of-chroma.ensures) a.second _ _ a.pred0.now a.pred1.now _ _ _ _ _ _ (not-false _ c.if-not-list.false)
     c.cu_dim_offset-offset_u.ensures c.cu_dim_offset-offset_v.ensures
     c.predict_component.ensures.pred0_after c.predict_component.ensures.pred1_after c.predict_component-2.ensures.pred0_after c.predict_component-2.ensures.pred1_after c.predict_component-3.ensures.pred0_after c.predict_component-3.ensures.pred1_after in record { pred0_after = parts.0; pred1_after = parts.1 }
-
-pub position_of-luma-requires : goal.position_of-luma-requires
-position_of-luma-requires c = (sides c.args.b c.requires.b_value.0).picture
-
-pub position_of-chroma-requires : goal.position_of-chroma-requires
-position_of-chroma-requires c = (sides c.args.b c.requires.b_value.0).picture

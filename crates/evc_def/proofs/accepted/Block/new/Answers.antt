@@ -18,7 +18,7 @@ pub invariant_of-result : goal.invariant_of-result
 invariant_of-result c =
     let k = accepted _ _ (sym c.is_accepted.ensures ∙ c.if-is_accepted.true) in
     let a = allowed _ k.0 k.1 in
-    record { accepted = k.0; across = a.0; down = a.1 }
+    record { accepted = k.0; checked = passed _ _ _ k.0 ∙ passed _ _ _ k.1 ∙ none; across = a.0; down = a.1 }
 
 pub returns-then-is_accepted-clause-code : goal.returns-then-is_accepted-clause-code
 returns-then-is_accepted-clause-code c = let k = accepted _ _ (sym c.is_accepted.ensures ∙ c.if-is_accepted.true) in sym (passed _ _ _ k.0 ∙ passed _ _ _ k.1 ∙ none)
