@@ -8,8 +8,6 @@ use Rattle.evc_def.specs.Codes.{◌when◌, first_of}
 use Rattle.evc_def.specs.declared.EvcMv.{EvcMv}
 use Rattle.evc_trace.specs.declared.TraceHeader.{TraceHeader}
 use Rattle.evc_trace.specs.declared.EvcTraceRecord.{EvcTraceRecord}
-use Rattle.evc_trace.specs.declared.Kind.{Kind}
-use Rattle.evc_trace.specs.declared.Kind.TheVariants.{List0, List1, Both, Direct}
 
 -- ---- the header: "the letters IPT, version 1 in 16 bits, then W, H, the picture's order count and the collocated reference's first listed count, 16
 -- bits each, low byte first"
@@ -73,14 +71,7 @@ record_of n s =
 abbrev pub last_byte : ℕ → List ℕ → ℕ
 last_byte n s = get_or s (17 + 2 * n) 0
 
--- "a kind byte (0 list 0, 1 list 1, 2 both, 3 direct with both lists)"
-abbrev pub number_of : Kind → ℕ
-number_of List0 = 0
-number_of List1 = 1
-number_of Both = 2
-number_of Direct = 3
-
--- "Fields of an unused list are zero, and so are both vectors of kind 3."
+-- "a kind byte (0 list 0, 1 list 1, 2 both, 3 direct with both lists)". "Fields of an unused list are zero, and so are both vectors of kind 3."
 abbrev pub is_zero_mv : EvcMv → Bool
 is_zero_mv mv = eq_z mv.x (pos 0) && eq_z mv.y (pos 0)
 

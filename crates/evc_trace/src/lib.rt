@@ -5,7 +5,7 @@ ghost use Rattle.evc_def.specs.Refusals.{code_of};
 ghost use Rattle.evc_bytes.specs.Bytes.{bytes_of};
 ghost use Rattle.evc_bytes.specs.Inner.{written};
 ghost use Rattle.evc_trace.specs.Format.{version, count_len, header_len, mark, header_bytes, is_trace, header_of, overwritten, write_header_code, write_header_after};
-ghost use Rattle.evc_trace.specs.Format.{record_len, mv_of, mv_bytes, record_bytes, record_of, number_of, is_well_formed, write_record_code, write_record_after};
+ghost use Rattle.evc_trace.specs.Format.{record_len, mv_of, mv_bytes, record_bytes, record_of, is_well_formed, write_record_code, write_record_after};
 ghost use Rattle.evc_trace.specs.declared.TraceHeader.{TraceHeader};
 
 use evc_def::{EvcMv, Picture, Refusal};
@@ -38,29 +38,6 @@ pub struct EvcTraceRecord {
     pub mv1: EvcMv,
     pub poc0: u16,
     pub poc1: u16,
-}
-
-// What a record's block is predicted from, by the numbers of its kind.
-#[derive(Clone, Copy, PartialEq, Eq)]
-pub enum Kind {
-    List0,
-    List1,
-    Both,
-    Direct,
-}
-
-impl EvcTraceRecord {
-    pub fn kind(self) -> Kind
-        requires { self.kind ≤ 3 }
-        ensures { number_of result ≡ self.kind }
-    {
-        match self.kind {
-            0 => Kind::List0,
-            1 => Kind::List1,
-            2 => Kind::Both,
-            _ => Kind::Direct,
-        }
-    }
 }
 
 // ---- fields

@@ -23,7 +23,7 @@ module _ (h : TraceHeader) (has : Bool) (col : List ℤ) (r : EvcTraceRecord) wh
   own n = rw (ne_eqb r.kind 3 n)
 
 pub returns-then-r-eq3 : goal.returns-then-r-eq3
-returns-then-r-eq3 c = of_kind_3 _ _ _ _ _ _ _ c.if-r-eq3.true c.block_of.ensures c.pocs_of.ensures c.direct.ensures
+returns-then-r-eq3 c = of_kind_3 _ _ _ _ _ _ _ c.if-r-eq3.true c.block_of.ensures c.pocs_of.ensures c.get_mv_dir.ensures
 
 pub returns : goal.returns
 returns c = own _ _ _ _ c.if-r-eq3.false

@@ -8,17 +8,17 @@ use Rattle.evc_record.proofs.put_block.Goals as goal
 
 pub put_component-requires : goal.put_component-requires
 put_component-requires c =
-    let a = c.args in record { b_value = c.requires.b_value.0; w_in_bounds = (component_in a.b c.requires.b_value.0 luma _ c.requires.b_value.1, (long_enough _ _ (planes a.y.now a.u.now a.v.now) c.requires.v_value).0) }
+    let a = c.args in (component_in a.b.given a.b.checked luma _ c.requires.pred_len_in_bounds, (long_enough _ _ (planes a.y.now a.u.now a.v.now) c.requires.long_enough).0)
 
 pub put_component-requires-2 : goal.put_component-requires-2
 put_component-requires-2 c =
-    let a = c.args in record { b_value = c.requires.b_value.0; w_in_bounds = (omega (arith, component_in a.b c.requires.b_value.0 cb _ c.requires.b_value.1, c.cu_dim_offset-offset_u.ensures), (long_enough _ _ (planes a.y.now a.u.now a.v.now) c.requires.v_value).1) }
+    let a = c.args in (omega (arith, component_in a.b.given a.b.checked cb _ c.requires.pred_len_in_bounds, c.cu_dim_offset-offset_u.ensures), (long_enough _ _ (planes a.y.now a.u.now a.v.now) c.requires.long_enough).1)
 
 pub put_component-requires-3 : goal.put_component-requires-3
 put_component-requires-3 c =
-    let a = c.args in record { b_value = c.requires.b_value.0; w_in_bounds = (omega (arith, component_in a.b c.requires.b_value.0 cr _ c.requires.b_value.1, c.cu_dim_offset-offset_v.ensures), (long_enough _ _ (planes a.y.now a.u.now a.v.now) c.requires.v_value).2) }
+    let a = c.args in (omega (arith, component_in a.b.given a.b.checked cr _ c.requires.pred_len_in_bounds, c.cu_dim_offset-offset_v.ensures), (long_enough _ _ (planes a.y.now a.u.now a.v.now) c.requires.long_enough).2)
 
 pub returns : goal.returns
 returns c =
     let a = c.args in
-    let b = a.b in record { y_after = component_put b luma a.y.now _ a.pred.now _ refl c.put_component.ensures; u_after = component_put b cb a.u.now _ a.pred.now _ c.cu_dim_offset-offset_u.ensures c.put_component-2.ensures; v_after = component_put b cr a.v.now _ a.pred.now _ c.cu_dim_offset-offset_v.ensures c.put_component-3.ensures }
+    let b = a.b.given in record { y_after = component_put b luma a.y.now _ a.pred.now _ refl c.put_component.ensures; u_after = component_put b cb a.u.now _ a.pred.now _ c.cu_dim_offset-offset_u.ensures c.put_component-2.ensures; v_after = component_put b cr a.v.now _ a.pred.now _ c.cu_dim_offset-offset_v.ensures c.put_component-3.ensures }

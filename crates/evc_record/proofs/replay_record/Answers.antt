@@ -1,87 +1,94 @@
 -- `evc_record::replay_record` meets its contract: refused and the target untouched, or the record's block put into it. Assumes nothing.
-use mathlib.Core.Bool.{false}
-use mathlib.Core.Path.{◌≡◌, sym, ap, subst, ◌∙◌}
+use mathlib.Core.Path.{◌≡◌, refl, sym, ap, subst}
 use native.Mathlib.Omega.{arith}
+use Rattle.std.proofs.lemmas.Result.{err_from_is_err_and}
 use Rattle.evc_def.specs.Codes.{first_of, block_checks}
 use Rattle.evc_def.specs.declared.EvcBlock.{EvcBlock}
-use Rattle.evc_mc.specs.Block.{luma, cb, cr, ref_pic_list, mc2_code}
+use Rattle.evc_def.proofs.Blocks.{allowed_block}
+use Rattle.evc_def.proofs.Refusals.{not_0}
+use Rattle.evc_map.specs.Maps.{is_present, numbers_of}
+use Rattle.evc_mc.specs.Block.{luma, cb, cr}
 use Rattle.evc_mc.specs.declared.EvcPredicted.{EvcPredicted}
 use Rattle.evc_mc.proofs.Answers.{silent}
-use Rattle.evc_record.specs.Record.{Planes, planes, Source, source, block_of, list0_of, list1_of, blank, form_code, record_answer, picture_short}
-use Rattle.evc_record.proofs.Steps.{code_form, kept, whole_record, code_motion, answer_block, good_block, one_plane, all_planes}
+use Rattle.evc_mc.proofs.Checks.{sides}
+use Rattle.evc_record.specs.Record.{planes}
+use Rattle.evc_record.proofs.Steps.{code_form, kept, code_motion, answer_block, good_block, one_plane, all_planes}
 use Rattle.evc_record.proofs.replay_record.Goals as goal
-use Rattle.evc_record.proofs.replay_record.Lts as place
-use Rattle.evc_record.proofs.replay_record.Reads.{Pre, Post}
-use Rattle.evc_record.proofs.replay_record.Tie.{the-claims as claims, handed_clauses as clauses}
 
--- ---- what the record is replayed from, and the steps of the code from the last to the first
-abbrev ref0 : (place.Start claims Pre Post clauses) → Planes
-ref0 s = let a = s.args in planes a.y0.now a.u0.now a.v0.now
-
-abbrev ref1 : (place.Start claims Pre Post clauses) → Planes
-ref1 s = let a = s.args in planes a.y1.now a.u1.now a.v1.now
-
-abbrev target : (place.Start claims Pre Post clauses) → Planes
-target s = let a = s.args in planes a.y.now a.u.now a.v.now
-
-abbrev from : (place.Start claims Pre Post clauses) → Source
-from s = let a = s.args in source a.h (ref0 s) (ref1 s) a.has_col a.col_mv.now
-
--- ---- refused by its form or its motion
-pub returns-then-form-ne0 : goal.returns-then-form-ne0
-returns-then-form-ne0 c =
+pub returns-in_err-r : goal.returns-in_err-r
+returns-in_err-r c =
     let a = c.args in
-    let e = code_form a.h (ref0 c.before.before.before.before.before.before.before.before.before.before.before.before.before.before.before.before) (ref1 c.before.before.before.before.before.before.before.before.before.before.before.before.before.before.before.before) a.has_col a.col_mv.now a.s.now _ c.form_code-form.ensures c.if-form-ne0.true in record { result_value = silent _ _ _ _ _ e c.if-form-ne0.true _ c.refused.ensures; v_after = kept a.h (ref0 c.before.before.before.before.before.before.before.before.before.before.before.before.before.before.before.before) (ref1 c.before.before.before.before.before.before.before.before.before.before.before.before.before.before.before.before) a.has_col a.col_mv.now a.s.now (target c.before.before.before.before.before.before.before.before.before.before.before.before.before.before.before.before) _ e c.if-form-ne0.true }
+    let p = planes a.y0.now a.u0.now a.v0.now in
+    let q = planes a.y1.now a.u1.now a.v1.now in
+    let has = is_present a.col_mv in
+    let col = numbers_of a.col_mv in
+    let s = a.s.now in
+    let t = planes a.y.now a.u.now a.v.now in
+    let x = err_from_is_err_and c.from_residual.result c.from_residual.ensures.1 in
+    let e = code_form a.h p q has col s _ c.in_err-r.ensures.code (not_0 _) in
+    rw (x.1, x.2) (record { result_value = silent _ _ _ _ _ e (not_0 _) _ refl; v_after = kept a.h p q has col s t _ e (not_0 _) })
 
-pub read_record-r-requires : goal.read_record-r-requires
-read_record-r-requires c =
+pub returns-in_err-m : goal.returns-in_err-m
+returns-in_err-m c =
     let a = c.args in
-    whole_record a.h (ref0 c.before.before.before.before.before.before.before.before.before.before.before.before.before.before.before) (ref1 c.before.before.before.before.before.before.before.before.before.before.before.before.before.before.before) a.has_col a.col_mv.now a.s.now (sym c.form_code-form.ensures ∙ c.if-form-ne0.false)
+    let p = planes a.y0.now a.u0.now a.v0.now in
+    let q = planes a.y1.now a.u1.now a.v1.now in
+    let has = is_present a.col_mv in
+    let col = numbers_of a.col_mv in
+    let s = a.s.now in
+    let t = planes a.y.now a.u.now a.v.now in
+    let x = err_from_is_err_and c.from_residual-in_err-m.result c.from_residual-in_err-m.ensures.1 in
+    let e = code_motion a.h p q has col s (sym c.in_ok-r.ensures.code) _ (sym c.in_ok-r.ensures.value) _ (sym c.in_err-m.ensures) (not_0 _) in
+    rw (x.1, x.2) (record { result_value = silent _ _ _ _ _ e (not_0 _) _ refl; v_after = kept a.h p q has col s t _ e (not_0 _) })
 
-form : (c : place.After-motion claims Pre Post clauses) → form_code c.args.s.now ≡ 0
-form c = sym c.form_code-form.ensures ∙ c.if-form-ne0.false
-
-pub returns-then-m-ne0 : goal.returns-then-m-ne0
-returns-then-m-ne0 c =
+pub returns-in_err-moved : goal.returns-in_err-moved
+returns-in_err-moved c =
     let a = c.args in
-    let e = code_motion a.h (ref0 c.before.before.before.before.before.before.before.before.before.before.before.before.before.before.before.before.before.before.before.before) (ref1 c.before.before.before.before.before.before.before.before.before.before.before.before.before.before.before.before.before.before.before.before) a.has_col a.col_mv.now a.s.now (form c.before.before.before.before) _ (sym c.read_record-r.ensures) _ (sym c.motion-m.ensures) c.if-m-ne0.true in record { result_value = silent _ _ _ _ _ e c.if-m-ne0.true _ c.refused-then-m-ne0.ensures; v_after = kept a.h (ref0 c.before.before.before.before.before.before.before.before.before.before.before.before.before.before.before.before.before.before.before.before) (ref1 c.before.before.before.before.before.before.before.before.before.before.before.before.before.before.before.before.before.before.before.before) a.has_col a.col_mv.now a.s.now (target c.before.before.before.before.before.before.before.before.before.before.before.before.before.before.before.before.before.before.before.before) _ e c.if-m-ne0.true }
+    let p = planes a.y0.now a.u0.now a.v0.now in
+    let q = planes a.y1.now a.u1.now a.v1.now in
+    let has = is_present a.col_mv in
+    let col = numbers_of a.col_mv in
+    let s = a.s.now in
+    let t = planes a.y.now a.u.now a.v.now in
+    let x = err_from_is_err_and c.from_residual-in_err-moved.result c.from_residual-in_err-moved.ensures.1 in
+    let e = answer_block a.h p q has col s (sym c.in_ok-r.ensures.code) _ (sym c.in_ok-r.ensures.value) _ (sym c.in_ok-m.ensures) refl _ c.in_err-moved.ensures.result_value in
+    rw (x.1, x.2) (record { result_value = e; v_after = kept a.h p q has col s t _ (ap (λ (p : EvcPredicted). p.code) e) (not_0 _) })
 
-answer : (c : place.After-predict_record claims Pre Post clauses) → c.predict_record-predicted.result ≡ record_answer (from c.before.before.before.before.before.before.before.before.before.before.before.before.before.before.before.before.before.before.before.before.before) c.args.s.now
-answer c =
+pub invariant_of-put_block : goal.invariant_of-put_block
+invariant_of-put_block c =
     let a = c.args in
-    answer_block a.h (ref0 c.before.before.before.before.before.before.before.before.before.before.before.before.before.before.before.before.before.before.before.before.before) (ref1 c.before.before.before.before.before.before.before.before.before.before.before.before.before.before.before.before.before.before.before.before.before) a.has_col a.col_mv.now a.s.now (form c.before.before.before.before.before) _ (sym c.read_record-r.ensures) _ (sym c.motion-m.ensures) c.if-m-ne0.false _ c.predict_record-predicted.ensures.result_value
-
-pub returns-then-predicted-ne0 : goal.returns-then-predicted-ne0
-returns-then-predicted-ne0 c =
-    let a = c.args in
-    let e = answer c.before.before.before.before.before.before.before in record { result_value = e; v_after = kept a.h (ref0 c.before.before.before.before.before.before.before.before.before.before.before.before.before.before.before.before.before.before.before.before.before.before.before.before.before.before.before.before) (ref1 c.before.before.before.before.before.before.before.before.before.before.before.before.before.before.before.before.before.before.before.before.before.before.before.before.before.before.before.before) a.has_col a.col_mv.now a.s.now (target c.before.before.before.before.before.before.before.before.before.before.before.before.before.before.before.before.before.before.before.before.before.before.before.before.before.before.before.before) _ (ap (λ (p : EvcPredicted). p.code) e) c.if-predicted-ne0.true }
-
--- ---- accepted
-accepted : (c : place.Else3 claims Pre Post clauses) → let r = c.read_record-r.result in let m = c.motion-m.result in
-    mc2_code (block_of c.args.h r) (ref_pic_list (list0_of r m) (ref0 c.before.before.before.before.before.before.before.before.before.before.before.before.before.before.before.before.before.before.before.before.before.before.before.before.before.before.before).y (ref0 c.before.before.before.before.before.before.before.before.before.before.before.before.before.before.before.before.before.before.before.before.before.before.before.before.before.before.before).u (ref0 c.before.before.before.before.before.before.before.before.before.before.before.before.before.before.before.before.before.before.before.before.before.before.before.before.before.before.before).v) (ref_pic_list (list1_of r m) (ref1 c.before.before.before.before.before.before.before.before.before.before.before.before.before.before.before.before.before.before.before.before.before.before.before.before.before.before.before).y (ref1 c.before.before.before.before.before.before.before.before.before.before.before.before.before.before.before.before.before.before.before.before.before.before.before.before.before.before.before).u (ref1 c.before.before.before.before.before.before.before.before.before.before.before.before.before.before.before.before.before.before.before.before.before.before.before.before.before.before.before).v) blank blank ≡ 0
-accepted c = sym (ap (λ (p : EvcPredicted). p.code) c.predict_record-predicted.ensures.result_value) ∙ c.if-predicted-ne0.false
-
-pub put_block-requires : goal.put_block-requires
-put_block-requires c =
-    let a = c.args in
-    let g = good_block a.h (ref0 c.before.before.before.before.before.before.before.before.before.before.before.before.before.before.before.before.before.before.before.before.before.before.before.before.before.before.before.before.before.before.before.before) (ref1 c.before.before.before.before.before.before.before.before.before.before.before.before.before.before.before.before.before.before.before.before.before.before.before.before.before.before.before.before.before.before.before.before) a.has_col a.col_mv.now a.s.now (form c.before.before.before.before.before.before.before.before.before.before.before.before.before.before.before.before) _ (sym c.read_record-r.ensures) _ (sym c.motion-m.ensures) c.if-m-ne0.false (accepted c.before.before.before.before.before) in
-    let b = sym c.block_of.ensures in
-    let l = c.predict_record-predicted.auto.pred0 in record { b_value = (subst (λ (b : EvcBlock). first_of (block_checks b) ≡ 0) b g, omega (arith, l, c.requires.pred0_len.0)); v_value = subst (λ (b : EvcBlock). picture_short b.pic_w b.pic_h (target c.before.before.before.before.before.before.before.before.before.before.before.before.before.before.before.before.before.before.before.before.before.before.before.before.before.before.before.before.before.before.before.before) ≡ false) b c.requires.v_value }
+    let p = planes a.y0.now a.u0.now a.v0.now in
+    let q = planes a.y1.now a.u1.now a.v1.now in
+    let has = is_present a.col_mv in
+    let col = numbers_of a.col_mv in
+    let s = a.s.now in
+    let e = sym (ap (λ (p : EvcPredicted). p.code) c.in_ok-moved.ensures.result_value) in
+    let g = good_block a.h p q has col s (sym c.in_ok-r.ensures.code) _ (sym c.in_ok-r.ensures.value) _ (sym c.in_ok-m.ensures) refl e in
+    let k = subst (λ (b : EvcBlock). first_of (block_checks b) ≡ 0) (sym c.block_of-given.ensures) g in
+    let n = allowed_block _ k in
+    record { accepted = (sides _ k).picture; checked = k; across = n.0; down = n.1 }
 
 pub returns : goal.returns
 returns c =
     let a = c.args in
-    let er = sym c.read_record-r.ensures in
-    let em = sym c.motion-m.ensures in
-    let direct = c.if-m-ne0.false in
-    let e = accepted c.before.before.before.before.before.before.before.before.before.before.before.before in
-    let d = c.predict_record-predicted.ensures.pred0_after c.if-predicted-ne0.false in
+    let p = planes a.y0.now a.u0.now a.v0.now in
+    let q = planes a.y1.now a.u1.now a.v1.now in
+    let has = is_present a.col_mv in
+    let col = numbers_of a.col_mv in
+    let s = a.s.now in
+    let form = sym c.in_ok-r.ensures.code in
+    let er = sym c.in_ok-r.ensures.value in
+    let em = sym c.in_ok-m.ensures in
+    let r = c.in_ok-moved.ensures.result_value in
+    let e = sym (ap (λ (p : EvcPredicted). p.code) r) in
+    let d = c.in_ok-moved.ensures.pred0_after refl in
     let l = c.requires.pred0_len.0 in
-    let b = c.block_of.ensures in
-    let w = c.put_block.ensures in record {
-      result_value = answer c.before.before.before.before.before.before.before.before.before.before.before.before.before.before.before.before.before.before;
-      v_after = all_planes a.h (ref0 c.before.before.before.before.before.before.before.before.before.before.before.before.before.before.before.before.before.before.before.before.before.before.before.before.before.before.before.before.before.before.before.before.before.before.before.before.before.before.before) (ref1 c.before.before.before.before.before.before.before.before.before.before.before.before.before.before.before.before.before.before.before.before.before.before.before.before.before.before.before.before.before.before.before.before.before.before.before.before.before.before.before) a.has_col a.col_mv.now a.s.now (form c.before.before.before.before.before.before.before.before.before.before.before.before.before.before.before.before.before.before.before.before.before.before.before) _ er _ em direct e a.y.now a.u.now a.v.now _ _ _
-          (one_plane a.h (ref0 c.before.before.before.before.before.before.before.before.before.before.before.before.before.before.before.before.before.before.before.before.before.before.before.before.before.before.before.before.before.before.before.before.before.before.before.before.before.before.before) (ref1 c.before.before.before.before.before.before.before.before.before.before.before.before.before.before.before.before.before.before.before.before.before.before.before.before.before.before.before.before.before.before.before.before.before.before.before.before.before.before.before) a.has_col a.col_mv.now a.s.now (form c.before.before.before.before.before.before.before.before.before.before.before.before.before.before.before.before.before.before.before.before.before.before.before) _ er _ em direct e luma a.y.now _ _ a.pred0.now _ b (omega (arith, l)) d w.y_after)
-          (one_plane a.h (ref0 c.before.before.before.before.before.before.before.before.before.before.before.before.before.before.before.before.before.before.before.before.before.before.before.before.before.before.before.before.before.before.before.before.before.before.before.before.before.before.before) (ref1 c.before.before.before.before.before.before.before.before.before.before.before.before.before.before.before.before.before.before.before.before.before.before.before.before.before.before.before.before.before.before.before.before.before.before.before.before.before.before.before) a.has_col a.col_mv.now a.s.now (form c.before.before.before.before.before.before.before.before.before.before.before.before.before.before.before.before.before.before.before.before.before.before.before) _ er _ em direct e cb a.u.now _ _ a.pred0.now _ b (omega (arith, l)) d w.u_after)
-          (one_plane a.h (ref0 c.before.before.before.before.before.before.before.before.before.before.before.before.before.before.before.before.before.before.before.before.before.before.before.before.before.before.before.before.before.before.before.before.before.before.before.before.before.before.before) (ref1 c.before.before.before.before.before.before.before.before.before.before.before.before.before.before.before.before.before.before.before.before.before.before.before.before.before.before.before.before.before.before.before.before.before.before.before.before.before.before.before) a.has_col a.col_mv.now a.s.now (form c.before.before.before.before.before.before.before.before.before.before.before.before.before.before.before.before.before.before.before.before.before.before.before) _ er _ em direct e cr a.v.now _ _ a.pred0.now _ b (omega (arith, l)) d w.v_after);
+    let b = c.block_of-given.ensures in
+    let w = c.put_block.ensures in
+    record {
+      result_value = answer_block a.h p q has col s form _ er _ em refl _ r;
+      v_after = all_planes a.h p q has col s form _ er _ em refl e a.y.now a.u.now a.v.now _ _ _
+          (one_plane a.h p q has col s form _ er _ em refl e luma a.y.now _ _ a.pred0.now _ b (omega (arith, l)) d w.y_after)
+          (one_plane a.h p q has col s form _ er _ em refl e cb a.u.now _ _ a.pred0.now _ b (omega (arith, l)) d w.u_after)
+          (one_plane a.h p q has col s form _ er _ em refl e cr a.v.now _ _ a.pred0.now _ b (omega (arith, l)) d w.v_after);
     }
