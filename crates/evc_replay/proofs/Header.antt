@@ -9,7 +9,11 @@ use lib.IntN.{ℤ}
 use lib.ListN.{length}
 use Rattle.evc_int.proofs.Bools.{none_true}
 use Rattle.evc_def.specs.Blocks.{bad_picture}
-use Rattle.evc_def.proofs.Codes.{refused, passed, none, accepted}
+use Rattle.evc_def.specs.Codes.{first_of, picture_checks}
+use Rattle.evc_def.specs.Refusals.{number_of}
+use Rattle.evc_def.specs.declared.refusal.Refusal.{Refusal}
+use Rattle.evc_def.proofs.Codes.{refused, passed, none, accepted, stops}
+use Rattle.evc_def.proofs.Refusals.{not_0}
 use Rattle.evc_mc.specs.Block.{planes_short}
 use Rattle.evc_map.specs.Maps.{map_short}
 use Rattle.evc_trace.specs.Format.{version, is_trace, header_of}
@@ -26,7 +30,7 @@ short h p q t has col = picture_short h.pic_w h.pic_h p || picture_short h.pic_w
 
 -- the test of the code is that of the definition
 pub tested : (h : TraceHeader) (p q t : Planes) (has : Bool) (col : List ℤ) (a b c d : Bool) → a ≡ planes_short h.pic_w h.pic_h p.y p.u p.v → b ≡ planes_short h.pic_w h.pic_h q.y q.u q.v
-    → c ≡ planes_short h.pic_w h.pic_h t.y t.u t.v → d ≡ map_short h.pic_w h.pic_h (length col) → (a || b || c || has && d) ≡ short h p q t has col
+    → c ≡ planes_short h.pic_w h.pic_h t.y t.u t.v → d ≡ (has && map_short h.pic_w h.pic_h (length col)) → (a || b || c || d) ≡ short h p q t has col
 unfolding picture_short
 tested h p q t has col a b c d e₀ e₁ e₂ e₃ = rw (e₀, e₁, e₂, e₃)
 
@@ -41,9 +45,9 @@ module _ (s : List ℕ) (p q : Planes) (has : Bool) (col : List ℤ) (t : Planes
     code_10 e = sym (passed _ _ _ (le-ltb _ _ l) ∙ refused _ _ _ e)
 
     module _ (m : not (is_trace version s) ≡ false) (h : TraceHeader) (eh : header_of 2 s ≡ h) where
-      pub code_1 : bad_picture h.pic_w h.pic_h ≡ true → 1 ≡ header_code s p q has col t
+      pub picture : (r : Refusal) → number_of r ≡ first_of (picture_checks h.pic_w h.pic_h) → number_of r ≡ header_code s p q has col t
       unfolding header_code
-      code_1 e = rw eh (sym (passed _ _ _ (le-ltb _ _ l) ∙ passed _ _ _ m ∙ refused _ _ _ e))
+      picture r e = rw eh (e ∙ sym (stops (picture_checks h.pic_w h.pic_h) _ (λ z. not_0 r (e ∙ z))) ∙ sym (passed _ _ _ (le-ltb _ _ l) ∙ passed _ _ _ m))
 
       module _ (g : bad_picture h.pic_w h.pic_h ≡ false) where
         pub code_4 : short h p q t has col ≡ true → 4 ≡ header_code s p q has col t

@@ -1,12 +1,15 @@
 #![tactic(auto)]
 
-ghost use Rattle.std.specs.Prelude.{◌≡◌, false, ◌≤◌, length, take, drop};
-ghost use Rattle.evc_trace.specs.Format.{header_len, record_len, count_len};
+ghost use Rattle.std.specs.Prelude.{◌≡◌, false, IfOk, ◌≤◌, length, take, drop};
+ghost use Rattle.evc_def.specs.Refusals.{code_of};
+ghost use Rattle.evc_map.specs.Maps.{is_present, numbers_of};
+ghost use Rattle.evc_trace.specs.Format.{header_len, record_len, count_len, header_of};
 ghost use Rattle.evc_record.specs.Record.{planes, picture_short, source};
 ghost use Rattle.evc_replay.specs.Replay.{answer_in, header_code, records_from, applied, replayed};
 ghost use Rattle.evc_replay.specs.Counts.{finished, counted_over, replayed_counts, counts_in};
 
 use evc_counts::MovedCounts;
+use evc_def::{Picture, Refusal};
 use evc_mc::PRED_LEN;
 use evc_trace::{HEADER_LEN, RECORD_LEN, TraceHeader};
 
@@ -21,9 +24,14 @@ pub struct EvcReplay {
     pub down_high: u64,
 }
 
-fn answer(code: u32, index: u64, c: MovedCounts) -> EvcReplay
-    ensures { (answer_in result ≡ record { code = code; index = index }) × (counts_in result ≡ c) }
+// How replay ended, at which index, and what it had counted by then.
+fn answer(ended: Result<(), Refusal>, index: u64, c: MovedCounts) -> EvcReplay
+    ensures { (answer_in result ≡ record { code = code_of ended; index = index }) × (counts_in result ≡ c) }
 {
+    let code = match ended {
+        Ok(()) => 0,
+        Err(refusal) => refusal.number(),
+    };
     EvcReplay {
         code,
         index,
@@ -56,8 +64,7 @@ fn replay_records(
     y1: &[u16],
     u1: &[u16],
     v1: &[u16],
-    has_col: bool,
-    col_mv: &[i16],
+    col_mv: Option<&[i16]>,
     y: &mut [u16],
     u: &mut [u16],
     v: &mut [u16],
@@ -65,50 +72,37 @@ fn replay_records(
     requires { (picture_short h.pic_w h.pic_h (planes y.old u.old v.old) ≡ false) × (header_len count_len ≤ length trace.now) }
     ensures v_after { let ref0 = planes y0.now u0.now v0.now in
         let ref1 = planes y1.now u1.now v1.now in
-        let from = source h ref0 ref1 has_col col_mv.now in
+        let from = source h ref0 ref1 (is_present col_mv.entry) (numbers_of col_mv.entry) in
         let target = planes y.old u.old v.old in
         record { answer = answer_in result; target = planes y.new u.new v.new } ≡ applied from (records_from trace.now (header_len count_len)) 0 target }
     ensures result_value { let ref0 = planes y0.now u0.now v0.now in
         let ref1 = planes y1.now u1.now v1.now in
-        let from = source h ref0 ref1 has_col col_mv.now in
+        let from = source h ref0 ref1 (is_present col_mv.entry) (numbers_of col_mv.entry) in
         counts_in result ≡ counted_over from (finished from (records_from trace.now (header_len count_len))) }
 {
     let mut pred0 = [0u16; PRED_LEN];
     let mut pred1 = [0u16; PRED_LEN];
     let mut at = HEADER_LEN;
     let mut index: u64 = 0;
-    let mut counts = MovedCounts::none();
+    let mut counts = MovedCounts::default();
     while at < trace.len() {
-        let record = evc_record::replay_record(
-            h,
-            record_at(trace, at),
-            y0,
-            u0,
-            v0,
-            y1,
-            u1,
-            v1,
-            has_col,
-            col_mv,
-            y,
-            u,
-            v,
-            &mut pred0,
-            &mut pred1,
-        );
-        if record.code != 0 {
-            return answer(record.code, index, counts);
-        }
-        let moved0 = record.moved0;
-        let moved1 = record.moved1;
+        let record = record_at(trace, at);
+        let moved = match evc_record::replay_record(
+            h, record, y0, u0, v0, y1, u1, v1, col_mv, y, u, v, &mut pred0, &mut pred1,
+        ) {
+            Ok(moved) => moved,
+            Err(refusal) => return answer(Err(refusal), index, counts),
+        };
+        let moved0 = moved.moved0;
+        let moved1 = moved.moved1;
         counts = counts.with_lists(moved0, moved1);
         at += RECORD_LEN;
         index += 1;
     }
-    answer(0, index, counts)
+    answer(Ok(()), index, counts)
 }
 
-fn header_code(
+fn checked_header(
     trace: &[u8],
     y0: &[u16],
     u0: &[u16],
@@ -116,35 +110,33 @@ fn header_code(
     y1: &[u16],
     u1: &[u16],
     v1: &[u16],
-    has_col: bool,
-    col_mv: &[i16],
+    col_mv: Option<&[i16]>,
     y: &[u16],
     u: &[u16],
     v: &[u16],
-) -> u32
-    ensures { let ref0 = planes y0.now u0.now v0.now in
+) -> Result<TraceHeader, Refusal>
+    ensures code { let ref0 = planes y0.now u0.now v0.now in
         let ref1 = planes y1.now u1.now v1.now in
         let target = planes y.now u.now v.now in
-        result ≡ header_code trace.now ref0 ref1 has_col col_mv.now target }
+        code_of result ≡ header_code trace.now ref0 ref1 (is_present col_mv.entry) (numbers_of col_mv.entry) target }
+    ensures value { IfOk result (λ h. h ≡ header_of count_len trace.now) }
 {
     if trace.len() < HEADER_LEN {
-        return 11;
+        return Err(Refusal::Incomplete);
     }
     if !evc_trace::is_trace(trace) {
-        return 10;
+        return Err(Refusal::Mark);
     }
     let h = evc_trace::read_header(trace);
-    if evc_def::bad_picture(h.pic_w, h.pic_h) {
-        return 1;
-    }
-    if evc_mc::planes_short(h.pic_w, h.pic_h, y0, u0, v0)
-        | evc_mc::planes_short(h.pic_w, h.pic_h, y1, u1, v1)
-        | evc_mc::planes_short(h.pic_w, h.pic_h, y, u, v)
-        | (has_col & evc_map::map_short(h.pic_w, h.pic_h, col_mv.len()))
+    let pic = Picture::new(h.pic_w, h.pic_h)?;
+    if evc_mc::planes_short(pic, y0, u0, v0)
+        | evc_mc::planes_short(pic, y1, u1, v1)
+        | evc_mc::planes_short(pic, y, u, v)
+        | evc_map::col_short(pic, col_mv)
     {
-        return 4;
+        return Err(Refusal::Buffer);
     }
-    0
+    Ok(h)
 }
 
 pub fn evc_trace_replay(
@@ -155,8 +147,7 @@ pub fn evc_trace_replay(
     y1: &[u16],
     u1: &[u16],
     v1: &[u16],
-    has_col: bool,
-    col_mv: &[i16],
+    col_mv: Option<&[i16]>,
     y: &mut [u16],
     u: &mut [u16],
     v: &mut [u16],
@@ -164,16 +155,14 @@ pub fn evc_trace_replay(
     ensures v_after { let ref0 = planes y0.now u0.now v0.now in
         let ref1 = planes y1.now u1.now v1.now in
         let target = planes y.old u.old v.old in
-        record { answer = answer_in result; target = planes y.new u.new v.new } ≡ replayed trace.now ref0 ref1 has_col col_mv.now target }
+        record { answer = answer_in result; target = planes y.new u.new v.new } ≡ replayed trace.now ref0 ref1 (is_present col_mv.entry) (numbers_of col_mv.entry) target }
     ensures result_value { let ref0 = planes y0.now u0.now v0.now in
         let ref1 = planes y1.now u1.now v1.now in
         let target = planes y.old u.old v.old in
-        counts_in result ≡ replayed_counts trace.now ref0 ref1 has_col col_mv.now target }
+        counts_in result ≡ replayed_counts trace.now ref0 ref1 (is_present col_mv.entry) (numbers_of col_mv.entry) target }
 {
-    let code = header_code(trace, y0, u0, v0, y1, u1, v1, has_col, col_mv, y, u, v);
-    if code != 0 {
-        return answer(code, 0, MovedCounts::none());
+    match checked_header(trace, y0, u0, v0, y1, u1, v1, col_mv, y, u, v) {
+        Ok(h) => replay_records(h, trace, y0, u0, v0, y1, u1, v1, col_mv, y, u, v),
+        Err(refusal) => answer(Err(refusal), 0, MovedCounts::default()),
     }
-    let h = evc_trace::read_header(trace);
-    replay_records(h, trace, y0, u0, v0, y1, u1, v1, has_col, col_mv, y, u, v)
 }
