@@ -8,8 +8,7 @@ use Rattle.evc_def.specs.declared.EvcBlock.{EvcBlock}
 use Rattle.evc_map.specs.Maps.{units_of, word_at, w_scu, h_scu, x_scu, y_scu, scup, scuw, scuh}
 use Rattle.evc_map.proofs.Units.{index_below}
 use Rattle.evc_avail.specs.Around.{left_of, first_column, last_column, right_of, above, first_row, below, has_unit, index_of}
-use Rattle.evc_avail.specs.Flags.{is_inter, is_not_intra}
-use Rattle.evc_avail.specs.Regions.{is_inter_in, is_not_intra_in}
+use Rattle.evc_avail.specs.Flags.{is_inter_in, is_not_intra_in}
 
 -- a unit of the picture, by its column and row
 record Inside (w h column row : ℕ) : Type 0 where
@@ -81,28 +80,15 @@ unit b column row index t there gone at =
     }
 
 -- what the code finds there is what the definitions of the flags find
-pub inter_is : (b : EvcBlock) (map : List ℕ) {column row index : ℕ} (t : Bool) → Unit b column row index t → (n : ℕ) (r : Bool) → n ≡ index → r ≡ (t && is_coded (word_at map n) && not (is_intra (word_at map n))) → r ≡ is_inter b map column row
-unfolding is_inter
-inter_is b map true u n r e p = p ∙ rw (e, u.exists, u.index_is refl)
-inter_is b map false u n r e p = p ∙ rw u.exists
-
 pub inter_in_is : (counts : ℕ → Bool) (b : EvcBlock) (map : List ℕ) {column row index : ℕ} (t : Bool) → Unit b column row index t → (n : ℕ) (r : Bool) → n ≡ index → r ≡ (t && counts (word_at map n) && is_coded (word_at map n) && not (is_intra (word_at map n))) → r ≡ is_inter_in counts b map column row
 unfolding is_inter_in
 inter_in_is counts b map true u n r e p = p ∙ rw (e, u.exists, u.index_is refl)
 inter_in_is counts b map false u n r e p = p ∙ rw u.exists
 
 -- a unit that was found is there
-pub found : (r t s u : Bool) → r ≡ (t && s && u) → r ≡ true → t ≡ true
-found r true s u e f = refl
-found r false s u e f = sym e ∙ f
-
-pub found_in : (r t s u v : Bool) → r ≡ (t && s && u && v) → r ≡ true → t ≡ true
-found_in r true s u v e f = refl
-found_in r false s u v e f = sym e ∙ f
-
-pub not_intra_is : (b : EvcBlock) (map : List ℕ) {column row index : ℕ} → Unit b column row index true → (n : ℕ) (r : Bool) → n ≡ index → r ≡ not (is_intra (word_at map n)) → r ≡ is_not_intra b map column row
-unfolding is_not_intra
-not_intra_is b map u n r e p = p ∙ rw (e, u.exists, u.index_is refl)
+pub found : (r t s u v : Bool) → r ≡ (t && s && u && v) → r ≡ true → t ≡ true
+found r true s u v e f = refl
+found r false s u v e f = sym e ∙ f
 
 pub not_intra_in_is : (counts : ℕ → Bool) (b : EvcBlock) (map : List ℕ) {column row index : ℕ} → Unit b column row index true → (n : ℕ) (r : Bool) → n ≡ index → r ≡ (counts (word_at map n) && not (is_intra (word_at map n))) → r ≡ is_not_intra_in counts b map column row
 unfolding is_not_intra_in

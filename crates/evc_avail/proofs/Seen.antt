@@ -1,11 +1,10 @@
--- A unit's word as a region sees it: its bits, and the tests of it. Assumes nothing.
+-- A unit's word as a slice sees it: its bits, and the tests of it. Assumes nothing.
 use Rattle.std.proofs.Common.{◌≡◌, ℕ, ◌+◌, ◌-◌, ◌*◌, ◌/◌, ◌%◌, ◌^◌, ◌<◌, ◌≤◌, Bool, true, false, not, ◌&&◌, eqb, sym, refl, ap, ◌∙◌, arith, eq-eqb, ne_eqb, eqb-true}
 use native.Mathlib.Nat.{div-div-eq-div-mul}
 use borrow.Author.Tests.{eqb-false}
 use Rattle.evc_def.specs.Tables.{is_coded, is_intra, slice_num}
-use Rattle.evc_avail.specs.Inner.{units_in, Seen}
-use Rattle.evc_avail.specs.Slices.{max_slice_num}
-use Rattle.evc_avail.specs.declared.Region.{Region}
+use Rattle.evc_avail.specs.Inner.{Seen}
+use Rattle.evc_avail.specs.Slices.{of_slice, max_slice_num}
 
 -- words that agree above the slice number
 above : (v w : ℕ) → v / 128 ≡ w / 128 → (k : ℕ) → v / (128 * k) ≡ w / (128 * k)
@@ -16,11 +15,6 @@ same_coded v w e = ap (λ (n : ℕ). eqb (n % 2) 1) (above v w e 16777216)
 
 same_intra : (v w : ℕ) → v / 128 ≡ w / 128 → is_intra v ≡ is_intra w
 same_intra v w e = ap (λ (n : ℕ). eqb (n % 2) 1) (above v w e 256)
-
-pub picture_seen : (word seen : ℕ) → seen ≡ word - slice_num word → Seen Region.Picture word seen
-picture_seen word seen e =
-    let same : seen / 128 ≡ word / 128 = omega arith in
-    record { available = eq-eqb (slice_num seen) 0 (omega arith); coded = λ t. same_coded seen word same; intra = λ t. same_intra seen word same }
 
 both_ways : (a b c d : ℕ) → (a ≡ b → c ≡ d) → (c ≡ d → a ≡ b) → eqb a b ≡ eqb c d
 both_ways a b c d f g = by_test (eqb c d) refl
@@ -39,7 +33,7 @@ module _ (slice word seen : ℕ) (l : slice ≤ max_slice_num) (s : seen < 2 ^ 3
   same_above : slice_num word ≡ slice → seen / 128 ≡ word / 128
   same_above o = omega arith
 
-  pub slice_seen : Seen (Region.Slice slice) word seen
+  pub slice_seen : Seen (of_slice slice) word seen
   slice_seen =
       record {
         available = both_ways (slice_num seen) 0 (slice_num word) slice ours zero_number;
@@ -47,18 +41,18 @@ module _ (slice word seen : ℕ) (l : slice ≤ max_slice_num) (s : seen < 2 ^ 3
         intra = λ t. same_intra seen word (same_above (eqb-true (slice_num word) slice t));
       }
 
-module _ (region : Region) (word seen : ℕ) (s : Seen region word seen) where
-  -- the tests of it are those of the unit's word, if the unit is one of the region's
-  pub inter_seen : (eqb (slice_num seen) 0 && (is_coded seen && not (is_intra seen))) ≡ (units_in region word && is_coded word && not (is_intra word))
-  inter_seen = by_test (units_in region word) refl
+module _ (counts : ℕ → Bool) (word seen : ℕ) (s : Seen counts word seen) where
+  -- the tests of it are those of the unit's word, if the unit counts
+  pub inter_seen : (eqb (slice_num seen) 0 && (is_coded seen && not (is_intra seen))) ≡ (counts word && is_coded word && not (is_intra word))
+  inter_seen = by_test (counts word) refl
     where
-      by_test : (t : Bool) → units_in region word ≡ t → (eqb (slice_num seen) 0 && (is_coded seen && not (is_intra seen))) ≡ (units_in region word && is_coded word && not (is_intra word))
+      by_test : (t : Bool) → counts word ≡ t → (eqb (slice_num seen) 0 && (is_coded seen && not (is_intra seen))) ≡ (counts word && is_coded word && not (is_intra word))
       by_test true e = rw (s.available, e, s.coded e, s.intra e)
       by_test false e = rw (s.available, e)
 
-  pub not_intra_seen : (eqb (slice_num seen) 0 && not (is_intra seen)) ≡ (units_in region word && not (is_intra word))
-  not_intra_seen = by_test (units_in region word) refl
+  pub not_intra_seen : (eqb (slice_num seen) 0 && not (is_intra seen)) ≡ (counts word && not (is_intra word))
+  not_intra_seen = by_test (counts word) refl
     where
-      by_test : (t : Bool) → units_in region word ≡ t → (eqb (slice_num seen) 0 && not (is_intra seen)) ≡ (units_in region word && not (is_intra word))
+      by_test : (t : Bool) → counts word ≡ t → (eqb (slice_num seen) 0 && not (is_intra seen)) ≡ (counts word && not (is_intra word))
       by_test true e = rw (s.available, e, s.intra e)
       by_test false e = rw (s.available, e)

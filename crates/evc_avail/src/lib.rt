@@ -1,14 +1,13 @@
 #![tactic(auto)]
 
-ghost use Rattle.std.specs.Prelude.{◌≡◌, ◌-◌, ◌*◌, ◌<◌, ◌≤◌, true, not, ◌&&◌, length, if◌then◌else◌};
+ghost use Rattle.std.specs.Prelude.{◌≡◌, ℕ, ◌-◌, ◌*◌, ◌<◌, ◌≤◌, Bool, true, not, ◌&&◌, length, if◌then◌else◌};
 ghost use Rattle.evc_def.specs.Blocks.{Allowed};
 ghost use Rattle.evc_def.specs.Codes.{first_of};
 ghost use Rattle.evc_def.specs.Tables.{is_coded, is_intra};
 ghost use Rattle.evc_map.specs.Maps.{units_of, most_units, word_at, w_scu, scup, scuh};
-ghost use Rattle.evc_avail.specs.Flags.{avail_left, avail_right, avail_up, avail_inter, avail_checks, get_avail_inter};
-ghost use Rattle.evc_avail.specs.Regions.{avail_left_in, avail_right_in, avail_up_in, avail_of};
+ghost use Rattle.evc_avail.specs.Flags.{avail_left_in, avail_right_in, avail_up_in, avail_of, of_picture, avail_checks, get_avail_inter};
 ghost use Rattle.evc_avail.specs.Slices.{of_slice, max_slice_num, slice_checks, get_avail_inter_slice};
-ghost use Rattle.evc_avail.specs.Inner.{units_in, slice_in, Seen};
+ghost use Rattle.evc_avail.specs.Inner.{Seen};
 
 use evc_def::{
     AVAIL_LE, AVAIL_LO_LE, AVAIL_LO_RI, AVAIL_RI, AVAIL_RI_UP, AVAIL_UP, AVAIL_UP_LE, AVAIL_UP_RI,
@@ -22,23 +21,84 @@ pub struct EvcAvail {
     pub avail: u16,
 }
 
-// Whether the unit that lies `back` before an index is coded and not intra. A unit outside the picture is not.
-fn is_inter(map_scu: &[u32], has: bool, scup: Scu, back: Scu) -> bool
+// The part of a picture whose units count as available.
+trait Region: Copy {
+    // Which units do, by their words.
+    ghost counts: { Self → ℕ → Bool };
+
+    // Whether a unit is available, coded and not intra.
+    fn is_inter(self, mcu: MCU) -> bool
+        ensures { result ≡ (counts self mcu.0 && is_coded mcu.0 && not (is_intra mcu.0)) };
+
+    fn is_not_intra(self, mcu: MCU) -> bool
+        ensures { result ≡ (counts self mcu.0 && not (is_intra mcu.0)) };
+}
+
+// All of it.
+#[derive(Clone, Copy)]
+struct Picture;
+
+impl Region for Picture {
+    ghost counts = { λ picture. of_picture };
+
+    fn is_inter(self, mcu: MCU) -> bool {
+        mcu.IS_COD_NIF()
+    }
+
+    fn is_not_intra(self, mcu: MCU) -> bool {
+        !mcu.GET_IF()
+    }
+}
+
+// The slice of a number.
+#[derive(Clone, Copy)]
+struct Slice {
+    slice_num: u32,
+    ghost in_range: { slice_num ≤ max_slice_num },
+}
+
+impl Slice {
+    // A unit's word with a slice number of 0 if the unit is one of the slice's, and of something else if not. The optimizer
+    // then makes one test of slice, coded and intra.
+    fn seen(self, mcu: MCU) -> MCU
+        ensures { Seen (of_slice self.slice_num) mcu.0 result.0 }
+    {
+        MCU(std::num::wrapping_sub_u32(mcu.0, self.slice_num))
+    }
+}
+
+impl Region for Slice {
+    ghost counts = { λ slice. of_slice slice.slice_num };
+
+    fn is_inter(self, mcu: MCU) -> bool {
+        let seen = self.seen(mcu);
+        (seen.GET_SN() == 0) & seen.IS_COD_NIF()
+    }
+
+    fn is_not_intra(self, mcu: MCU) -> bool {
+        let seen = self.seen(mcu);
+        (seen.GET_SN() == 0) & !seen.GET_IF()
+    }
+}
+
+// Whether the unit that lies `back` before an index is available, coded and not intra. A unit outside the picture is not.
+fn is_inter<R: Region>(map_scu: &[u32], region: R, has: bool, scup: Scu, back: Scu) -> bool
     requires { has ≡ true → (back.0 ≤ scup.0) × (scup.0 - back.0 < length map_scu.now) }
     ensures { let word = word_at map_scu.now (scup.0 - back.0) in
-        result ≡ (has && is_coded word && not (is_intra word)) }
+        result ≡ (has && R.counts region word && is_coded word && not (is_intra word)) }
 {
     if !has {
         return false;
     }
-    evc_map::mcu_at(map_scu, Scu(scup.0 - back.0)).IS_COD_NIF()
+    region.is_inter(evc_map::mcu_at(map_scu, Scu(scup.0 - back.0)))
 }
 
-fn is_not_intra(map_scu: &[u32], scup: Scu) -> bool
+fn is_not_intra<R: Region>(map_scu: &[u32], region: R, scup: Scu) -> bool
     requires { scup.0 < length map_scu.now }
-    ensures { result ≡ not (is_intra (word_at map_scu.now scup.0)) }
+    ensures { let word = word_at map_scu.now scup.0 in
+        result ≡ (R.counts region word && not (is_intra word)) }
 {
-    !evc_map::mcu_at(map_scu, scup).GET_IF()
+    region.is_not_intra(evc_map::mcu_at(map_scu, scup))
 }
 
 // `bit` where it is set.
@@ -57,18 +117,19 @@ fn block_rows(b: EvcBlock) -> Scu
 }
 
 // `first` is the index of the block's first unit, and `down` leads to the row below the block.
-fn avail_left(b: EvcBlock, map_scu: &[u32], first: Scu, down: Scu) -> u16
+fn avail_left<R: Region>(b: EvcBlock, map_scu: &[u32], region: R, first: Scu, down: Scu) -> u16
     requires pic_h_in_bounds { units_of b.pic_w b.pic_h ≤ length map_scu.now }
     requires allowed { Allowed b.pic_w b.x b.w × Allowed b.pic_h b.y b.h }
     requires first_value { (first.0 ≡ scup b) × (down.0 ≡ scuh b * w_scu b) × (down.0 ≤ most_units) }
-    ensures { (result ≡ avail_left b map_scu.now) × (result ≤ 130) }
+    ensures { (result ≡ avail_left_in (R.counts region) b map_scu.now) × (result ≤ 130) }
 {
-    let le = is_inter(map_scu, b.x != 0, first, Scu(1));
+    let le = is_inter(map_scu, region, b.x != 0, first, Scu(1));
     if !le {
         return 0;
     }
     let lo_le = is_inter(
         map_scu,
+        region,
         evc_def::has_below(b),
         Scu(first.0 + down.0),
         Scu(1),
@@ -76,19 +137,20 @@ fn avail_left(b: EvcBlock, map_scu: &[u32], first: Scu, down: Scu) -> u16
     AVAIL_LE + flag(lo_le, AVAIL_LO_LE)
 }
 
-fn avail_right(b: EvcBlock, map_scu: &[u32], first: Scu, down: Scu) -> u16
+fn avail_right<R: Region>(b: EvcBlock, map_scu: &[u32], region: R, first: Scu, down: Scu) -> u16
     requires pic_h_in_bounds { units_of b.pic_w b.pic_h ≤ length map_scu.now }
     requires allowed { Allowed b.pic_w b.x b.w × Allowed b.pic_h b.y b.h }
     requires first_value { (first.0 ≡ scup b) × (down.0 ≡ scuh b * w_scu b) × (down.0 ≤ most_units) }
-    ensures { (result ≡ avail_right b map_scu.now) × (result ≤ 264) }
+    ensures { (result ≡ avail_right_in (R.counts region) b map_scu.now) × (result ≤ 264) }
 {
     let right = Scu(first.0 + evc_map::scu(b.w).0);
-    let ri = is_inter(map_scu, evc_def::has_right(b), right, Scu(0));
+    let ri = is_inter(map_scu, region, evc_def::has_right(b), right, Scu(0));
     if !ri {
         return 0;
     }
     let lo_ri = is_inter(
         map_scu,
+        region,
         evc_def::has_below(b),
         Scu(right.0 + down.0),
         Scu(0),
@@ -96,22 +158,23 @@ fn avail_right(b: EvcBlock, map_scu: &[u32], first: Scu, down: Scu) -> u16
     AVAIL_RI + flag(lo_ri, AVAIL_LO_RI)
 }
 
-fn avail_up(b: EvcBlock, map_scu: &[u32], first: Scu) -> u16
+fn avail_up<R: Region>(b: EvcBlock, map_scu: &[u32], region: R, first: Scu) -> u16
     requires pic_h_in_bounds { units_of b.pic_w b.pic_h ≤ length map_scu.now }
     requires allowed { Allowed b.pic_w b.x b.w × Allowed b.pic_h b.y b.h }
     requires first_value { first.0 ≡ scup b }
-    ensures { (result ≡ avail_up b map_scu.now) × (result ≤ 609) }
+    ensures { (result ≡ avail_up_in (R.counts region) b map_scu.now) × (result ≤ 609) }
 {
     if b.y == 0 {
         return 0;
     }
     let above = Scu(first.0 - evc_map::scu(b.pic_w).0);
     let scuw = evc_map::scu(b.w);
-    let up = is_not_intra(map_scu, above);
-    let ri_up = is_not_intra(map_scu, Scu(above.0 + scuw.0 - 1));
-    let up_le = is_inter(map_scu, b.x != 0, above, Scu(1));
+    let up = is_not_intra(map_scu, region, above);
+    let ri_up = is_not_intra(map_scu, region, Scu(above.0 + scuw.0 - 1));
+    let up_le = is_inter(map_scu, region, b.x != 0, above, Scu(1));
     let up_ri = is_inter(
         map_scu,
+        region,
         evc_def::has_right(b),
         Scu(above.0 + scuw.0),
         Scu(0),
@@ -122,16 +185,16 @@ fn avail_up(b: EvcBlock, map_scu: &[u32], first: Scu) -> u16
         + flag(up_ri, AVAIL_UP_RI)
 }
 
-fn avail_inter(b: EvcBlock, map_scu: &[u32]) -> u16
+fn avail_inter<R: Region>(b: EvcBlock, map_scu: &[u32], region: R) -> u16
     requires pic_h_in_bounds { units_of b.pic_w b.pic_h ≤ length map_scu.now }
     requires allowed { Allowed b.pic_w b.x b.w × Allowed b.pic_h b.y b.h }
-    ensures { result ≡ avail_inter b map_scu.now }
+    ensures { result ≡ avail_of (R.counts region) b map_scu.now }
 {
     let first = evc_map::unit_at(b.pic_w, b.x, b.y);
     let down = block_rows(b);
-    let left = avail_left(b, map_scu, first, down);
-    let right = avail_right(b, map_scu, first, down);
-    left + avail_up(b, map_scu, first) + right
+    let left = avail_left(b, map_scu, region, first, down);
+    let right = avail_right(b, map_scu, region, first, down);
+    left + avail_up(b, map_scu, region, first) + right
 }
 
 fn avail_code(b: EvcBlock, words: usize) -> u32
@@ -156,138 +219,11 @@ pub fn evc_get_avail_inter(block: EvcBlock, map_scu: &[u32]) -> EvcAvail
     }
     EvcAvail {
         code: 0,
-        avail: avail_inter(block, map_scu),
+        avail: avail_inter(block, map_scu, Picture),
     }
 }
 
-// ---- document 02, W5: flags over a part of a picture
-
-// The part of a picture whose units count as available.
-#[derive(Clone, Copy)]
-enum Region {
-    Picture,
-    Slice(u32),
-}
-
-impl Region {
-    // A unit's word with a slice number of 0 if the unit is one of the region's, and of something else if not. The optimizer
-    // then makes one test of slice, coded and intra.
-    fn seen(self, mcu: MCU) -> MCU
-        requires { slice_in self ≤ max_slice_num }
-        ensures { Seen self mcu.0 result.0 }
-    {
-        match self {
-            Region::Picture => MCU(mcu.0 - mcu.GET_SN()),
-            Region::Slice(slice_num) => MCU(std::num::wrapping_sub_u32(mcu.0, slice_num)),
-        }
-    }
-}
-
-// Whether the unit that lies `back` before an index is available, coded and not intra. A unit outside the picture is not.
-fn is_inter_in(map_scu: &[u32], region: Region, has: bool, scup: Scu, back: Scu) -> bool
-    requires back_le_scup { has ≡ true → (back.0 ≤ scup.0) × (scup.0 - back.0 < length map_scu.now) }
-    requires region_bound { slice_in region ≤ max_slice_num }
-    ensures { let word = word_at map_scu.now (scup.0 - back.0) in
-        result ≡ (has && units_in region word && is_coded word && not (is_intra word)) }
-{
-    if !has {
-        return has;
-    }
-    let mcu = region.seen(evc_map::mcu_at(map_scu, Scu(scup.0 - back.0)));
-    (mcu.GET_SN() == 0) & mcu.IS_COD_NIF()
-}
-
-fn is_not_intra_in(map_scu: &[u32], region: Region, scup: Scu) -> bool
-    requires scup_in_bounds { scup.0 < length map_scu.now }
-    requires region_bound { slice_in region ≤ max_slice_num }
-    ensures { let word = word_at map_scu.now scup.0 in
-        result ≡ (units_in region word && not (is_intra word)) }
-{
-    let mcu = region.seen(evc_map::mcu_at(map_scu, scup));
-    (mcu.GET_SN() == 0) & !mcu.GET_IF()
-}
-
-// `first` is the index of the block's first unit, and `down` leads to the row below the block.
-fn avail_left_in(b: EvcBlock, map_scu: &[u32], region: Region, first: Scu, down: Scu) -> u16
-    requires pic_h_in_bounds { (units_of b.pic_w b.pic_h ≤ length map_scu.now) × (slice_in region ≤ max_slice_num) }
-    requires allowed { Allowed b.pic_w b.x b.w × Allowed b.pic_h b.y b.h }
-    requires first_value { (first.0 ≡ scup b) × (down.0 ≡ scuh b * w_scu b) × (down.0 ≤ most_units) }
-    ensures { (result ≡ avail_left_in (units_in region) b map_scu.now) × (result ≤ 130) }
-{
-    let le = is_inter_in(map_scu, region, b.x != 0, first, Scu(1));
-    if !le {
-        return 0;
-    }
-    let lo_le = is_inter_in(
-        map_scu,
-        region,
-        evc_def::has_below(b),
-        Scu(first.0 + down.0),
-        Scu(1),
-    );
-    AVAIL_LE + flag(lo_le, AVAIL_LO_LE)
-}
-
-fn avail_right_in(b: EvcBlock, map_scu: &[u32], region: Region, first: Scu, down: Scu) -> u16
-    requires pic_h_in_bounds { (units_of b.pic_w b.pic_h ≤ length map_scu.now) × (slice_in region ≤ max_slice_num) }
-    requires allowed { Allowed b.pic_w b.x b.w × Allowed b.pic_h b.y b.h }
-    requires first_value { (first.0 ≡ scup b) × (down.0 ≡ scuh b * w_scu b) × (down.0 ≤ most_units) }
-    ensures { (result ≡ avail_right_in (units_in region) b map_scu.now) × (result ≤ 264) }
-{
-    let right = Scu(first.0 + evc_map::scu(b.w).0);
-    let ri = is_inter_in(map_scu, region, evc_def::has_right(b), right, Scu(0));
-    if !ri {
-        return 0;
-    }
-    let lo_ri = is_inter_in(
-        map_scu,
-        region,
-        evc_def::has_below(b),
-        Scu(right.0 + down.0),
-        Scu(0),
-    );
-    AVAIL_RI + flag(lo_ri, AVAIL_LO_RI)
-}
-
-fn avail_up_in(b: EvcBlock, map_scu: &[u32], region: Region, first: Scu) -> u16
-    requires pic_h_in_bounds { (units_of b.pic_w b.pic_h ≤ length map_scu.now) × (slice_in region ≤ max_slice_num) }
-    requires allowed { Allowed b.pic_w b.x b.w × Allowed b.pic_h b.y b.h }
-    requires first_value { first.0 ≡ scup b }
-    ensures { (result ≡ avail_up_in (units_in region) b map_scu.now) × (result ≤ 609) }
-{
-    if b.y == 0 {
-        return 0;
-    }
-    let above = Scu(first.0 - evc_map::scu(b.pic_w).0);
-    let block_w = evc_map::scu(b.w);
-    let up = is_not_intra_in(map_scu, region, above);
-    let ri_up = is_not_intra_in(map_scu, region, Scu(above.0 + block_w.0 - 1));
-    let up_le = is_inter_in(map_scu, region, b.x != 0, above, Scu(1));
-    let up_ri = is_inter_in(
-        map_scu,
-        region,
-        evc_def::has_right(b),
-        Scu(above.0 + block_w.0),
-        Scu(0),
-    );
-    flag(up, AVAIL_UP)
-        + flag(ri_up, AVAIL_RI_UP)
-        + flag(up_le, AVAIL_UP_LE)
-        + flag(up_ri, AVAIL_UP_RI)
-}
-
-fn avail_inter_slice(b: EvcBlock, slice_num: u32, map_scu: &[u32]) -> u16
-    requires pic_h_in_bounds { (units_of b.pic_w b.pic_h ≤ length map_scu.now) × (slice_num ≤ max_slice_num) }
-    requires allowed { Allowed b.pic_w b.x b.w × Allowed b.pic_h b.y b.h }
-    ensures { result ≡ avail_of (of_slice slice_num) b map_scu.now }
-{
-    let region = Region::Slice(slice_num);
-    let first = evc_map::unit_at(b.pic_w, b.x, b.y);
-    let down = block_rows(b);
-    let left = avail_left_in(b, map_scu, region, first, down);
-    let right = avail_right_in(b, map_scu, region, first, down);
-    left + avail_up_in(b, map_scu, region, first) + right
-}
+// ---- document 02, W5: flags in a slice
 
 const MAX_SLICE_NUM: u32 = 127;
 
@@ -314,6 +250,6 @@ pub fn evc_get_avail_inter_slice(block: EvcBlock, slice_num: u32, map_scu: &[u32
     }
     EvcAvail {
         code: 0,
-        avail: avail_inter_slice(block, slice_num, map_scu),
+        avail: avail_inter(block, map_scu, Slice { slice_num }),
     }
 }

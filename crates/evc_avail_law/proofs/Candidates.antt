@@ -16,8 +16,7 @@ use Rattle.evc_def.specs.declared.EvcBlock.{EvcBlock}
 use Rattle.evc_def.proofs.Codes.{both_accepted}
 use Rattle.evc_map.specs.Maps.{units_of, word_at, mv_at, w_scu, scup, scuw}
 use Rattle.evc_avail.specs.Around.{left_of, first_column, right_of, above, first_row, has_unit}
-use Rattle.evc_avail.specs.Flags.{avail_checks}
-use Rattle.evc_avail.specs.Regions.{is_inter_in, is_not_intra_in, avail_of}
+use Rattle.evc_avail.specs.Flags.{is_inter_in, is_not_intra_in, avail_of, avail_checks}
 use Rattle.evc_avail.specs.Slices.{of_slice, slice_checks, get_avail_inter_slice}
 use Rattle.evc_avail.proofs.Around.{Unit, inter_in_is, not_intra_in_is, positive, no_row, left_unit, up_unit, up_right_unit}
 use Rattle.evc_avail.proofs.Answers.{covers}
