@@ -1,9 +1,21 @@
 -- The vocabulary of inner contracts.
-use Rattle.std.specs.Prelude.{◌≡◌, ℕ, Bool, true, nat_eq}
+use Rattle.std.specs.Prelude.{◌≡◌, ℕ, Bool, true, nat_eq, Option, Some}
+use Rattle.std.specs.Bool.{then_some}
 use Rattle.evc_def.specs.Tables.{is_coded, is_intra, slice_num}
+use Rattle.evc_def.specs.declared.EvcBlock.{EvcBlock}
+use Rattle.evc_def.specs.declared.Scu.{Scu}
+use Rattle.evc_avail.specs.Around.{first_column, has_unit, index_of}
 
 -- a word whose slice number is 0 if the unit counts, and which then has the other bits of the unit's word
 pub record Seen (counts : ℕ → Bool) (word seen : ℕ) : Type 0 where
   pub available : nat_eq (slice_num seen) 0 ≡ counts word
   pub coded : counts word ≡ true → is_coded seen ≡ is_coded word
   pub intra : counts word ≡ true → is_intra seen ≡ is_intra word
+
+-- the unit of a column and a row, where the picture has one
+abbrev pub unit_of : EvcBlock → ℕ → ℕ → Option Scu
+unit_of b column row = then_some (has_unit b column row) (record { 0 = index_of b column row })
+
+-- a unit in the block's first column
+abbrev pub in_first_column : EvcBlock → Scu → Type 0
+in_first_column b unit = (row : ℕ) × (unit_of b (first_column b) row ≡ Some unit)

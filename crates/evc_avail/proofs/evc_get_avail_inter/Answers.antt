@@ -8,11 +8,11 @@ pub returns-then-code-ne0 : goal.returns-then-code-ne0
 unfolding get_avail_inter
 returns-then-code-ne0 c = refusal _ _ _ c.avail_code-code.ensures c.if-code-ne0.true
 
-pub avail_inter-requires : goal.avail_inter-requires
-avail_inter-requires c =
+pub new-requires : goal.new-requires
+new-requires c =
     let k = covers _ _ (sym c.avail_code-code.ensures ∙ c.if-code-ne0.false) in
-    record { pic_h_in_bounds = k.0; allowed = k.1 }
+    record { allowed = k.1; has_words = k.0 }
 
 pub returns : goal.returns
 unfolding get_avail_inter
-returns c = done _ _ _ (sym c.avail_code-code.ensures ∙ c.if-code-ne0.false) c.avail_inter.ensures
+returns c = done _ _ _ (sym c.avail_code-code.ensures ∙ c.if-code-ne0.false) (rw (c.new.ensures.0, c.new.ensures.1) at c.avail_inter.ensures)
