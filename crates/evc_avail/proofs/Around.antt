@@ -1,38 +1,53 @@
--- The units around an allowed block: whether the picture has them, and their indices from that of the block's first unit. Assumes nothing.
+-- The units around an allowed block: whether the picture has them, and their indices. Assumes nothing.
 use Rattle.std.proofs.Common.{◌≡◌, ℕ, zero, suc, ◌+◌, ◌-◌, ◌*◌, ◌<◌, ◌≤◌, Bool, true, false, not, ◌&&◌, T, eqb, ltb, leb, List, Option, Some, None, IfSome, sym, refl, ap, ◌∙◌, subst, add-mul, arith, leb→le, ltb-false, ltb-true, eqb-true, le-leb}
+use Rattle.std.proofs.lemmas.Option.{none-some, same_Some}
+use Rattle.std.specs.Bool.{then_some}
 use borrow.Author.Tests.{eqb-false, not-true, not-false}
 use mir.Facts.{and_yes}
 use Rattle.evc_def.specs.Blocks.{Allowed}
 use Rattle.evc_def.specs.Tables.{is_coded, is_intra}
 use Rattle.evc_def.specs.declared.EvcBlock.{EvcBlock}
+use Rattle.evc_def.specs.declared.Scu.{Scu}
 use Rattle.evc_map.specs.Maps.{units_of, word_at, w_scu, h_scu, y_scu, scup, scuw, scuh}
 use Rattle.evc_map.proofs.Units.{index_below}
 use Rattle.evc_avail.specs.Around.{first_column, last_column, above, first_row, below, has_unit, index_of}
-use Rattle.std.proofs.lemmas.Option.{none-some, same_Some}
-use Rattle.std.specs.Bool.{then_some}
-use Rattle.evc_def.specs.declared.Scu.{Scu}
 use Rattle.evc_avail.specs.Flags.{is_inter_in, is_not_intra_in}
 use Rattle.evc_avail.specs.Inner.{unit_of}
 
 -- a unit of the picture, by its column and row
-record Inside (w h column row : ℕ) : Type 0 where
-  left : 1 ≤ column
-  right : column ≤ w
-  top : 1 ≤ row
-  bottom : row ≤ h
+pub record InPicture (b : EvcBlock) (column row : ℕ) : Type 0 where
+  pub left : 1 ≤ column
+  pub right : column ≤ w_scu b
+  pub top : 1 ≤ row
+  pub bottom : row ≤ h_scu b
 
-inside : (w h column row : ℕ) → (leb 1 column && leb column w && leb 1 row && leb row h) ≡ true → Inside w h column row
-inside w h column row e =
-    let t = subst T (sym e) tt in
-    let a = and_yes (leb 1 column && leb column w && leb 1 row) (leb row h) t in
-    let b = and_yes (leb 1 column && leb column w) (leb 1 row) a.0 in
-    let d = and_yes (leb 1 column) (leb column w) b.0 in
-    record {
-      left = leb→le 1 column d.0;
-      right = leb→le column w d.1;
-      top = leb→le 1 row b.1;
-      bottom = leb→le row h a.1;
-    }
+module _ (b : EvcBlock) (column row : ℕ) where
+  pub in_picture : has_unit b column row ≡ true → InPicture b column row
+  in_picture e =
+      let t = subst T (sym e) tt in
+      let a = and_yes (leb 1 column && leb column (w_scu b) && leb 1 row) (leb row (h_scu b)) t in
+      let d = and_yes (leb 1 column && leb column (w_scu b)) (leb 1 row) a.0 in
+      let f = and_yes (leb 1 column) (leb column (w_scu b)) d.0 in
+      record {
+        left = leb→le 1 column f.0;
+        right = leb→le column (w_scu b) f.1;
+        top = leb→le 1 row d.1;
+        bottom = leb→le row (h_scu b) a.1;
+      }
+
+  has : InPicture b column row → has_unit b column row ≡ true
+  has i = simp (le-leb 1 column i.left, le-leb column (w_scu b) i.right, le-leb 1 row i.top, le-leb row (h_scu b) i.bottom)
+
+  pub has_not : (InPicture b column row → ⊥) → has_unit b column row ≡ false
+  has_not n = by_test (has_unit b column row) refl
+    where
+      by_test : (s : Bool) → has_unit b column row ≡ s → has_unit b column row ≡ false
+      by_test true e = absurd (n (in_picture e))
+      by_test false e = e
+
+  -- a unit that the picture has is one of its units
+  pub unit_below : has_unit b column row ≡ true → index_of b column row < units_of b.pic_w b.pic_h
+  unit_below e = let i = in_picture e in index_below b.pic_w b.pic_h (column - 1) (row - 1) (omega arith) (omega arith)
 
 -- two numbers that a test found to differ
 apart : (a b : ℕ) → not (eqb a b) ≡ true → a ≤ b → a < b
@@ -46,28 +61,8 @@ pub positive : (a : ℕ) → (a ≡ 0 → ⊥) → 0 < a
 positive zero n = absurd (n refl)
 positive (suc k) n = omega arith
 
-pub apart_0 : (a : ℕ) → not (eqb a 0) ≡ true → 0 < a
-apart_0 a t = positive a (eqb-false a 0 (not-true (eqb a 0) t))
-
 same : (a b : ℕ) → not (eqb a b) ≡ false → a ≡ b
 same a b t = eqb-true a b (not-false (eqb a b) t)
-
-has_unit_lem : (b : EvcBlock) (column row : ℕ) (t : Bool) → (t ≡ true → Inside (w_scu b) (h_scu b) column row) → (t ≡ false → Inside (w_scu b) (h_scu b) column row → ⊥) → has_unit b column row ≡ t
-has_unit_lem b column row true there gone =
-    let i = there refl in
-    simp (le-leb 1 column i.left, le-leb column (w_scu b) i.right, le-leb 1 row i.top, le-leb row (h_scu b) i.bottom)
-has_unit_lem b column row false there gone = by_test (has_unit b column row) refl
-  where
-    by_test : (s : Bool) → has_unit b column row ≡ s → has_unit b column row ≡ false
-    by_test true e = absurd (gone refl (inside (w_scu b) (h_scu b) column row e))
-    by_test false e = e
-
-low : (b : EvcBlock) (column row : ℕ) → Inside (w_scu b) (h_scu b) column row → index_of b column row < units_of b.pic_w b.pic_h
-low b column row i = index_below b.pic_w b.pic_h (column - 1) (row - 1) (omega arith) (omega arith)
-
--- a unit that the picture has is one of its units
-pub unit_below : (b : EvcBlock) (column row : ℕ) → has_unit b column row ≡ true → index_of b column row < units_of b.pic_w b.pic_h
-unit_below b column row e = low b column row (inside (w_scu b) (h_scu b) column row e)
 
 none_then : (t : Bool) (x : Scu) → None ≡ then_some t x → t ≡ false
 none_then true x e = absurd (none-some x e)
@@ -77,23 +72,19 @@ some_then : (t : Bool) (x y : Scu) → Some y ≡ then_some t x → (t ≡ true)
 some_then true x y e = (refl, sym (same_Some y x e))
 some_then false x y e = absurd (none-some y (sym e))
 
-no_unit : (b : EvcBlock) (column row : ℕ) → None ≡ unit_of b column row → has_unit b column row ≡ false
-no_unit b column row e = none_then _ _ e
+module _ (b : EvcBlock) (column row : ℕ) where
+  no_unit : None ≡ unit_of b column row → has_unit b column row ≡ false
+  no_unit e = none_then _ _ e
 
-unit_found : (b : EvcBlock) (column row : ℕ) (scup : Scu) → Some scup ≡ unit_of b column row → (has_unit b column row ≡ true) × (index_of b column row ≡ scup.0)
-unit_found b column row scup e = let f = some_then _ _ scup e in (f.0, ap (λ (s : Scu). s.0) f.1)
+  found : (scup : Scu) → Some scup ≡ unit_of b column row → (has_unit b column row ≡ true) × (index_of b column row ≡ scup.0)
+  found scup e = let f = some_then _ _ scup e in (f.0, ap (λ (s : Scu). s.0) f.1)
 
-pub unit_low : (b : EvcBlock) (column row : ℕ) (unit : Option Scu) → unit ≡ unit_of b column row → IfSome unit (λ (scup : Scu). scup.0 < units_of b.pic_w b.pic_h)
-unit_low b column row unit e = subst (λ (o : Option Scu). IfSome o (λ (scup : Scu). scup.0 < units_of b.pic_w b.pic_h)) (sym e) (by_test (has_unit b column row) refl)
-  where
-    by_test : (t : Bool) → has_unit b column row ≡ t → IfSome {T = Scu} (then_some t (record { 0 = index_of b column row })) (λ (scup : Scu). scup.0 < units_of b.pic_w b.pic_h)
-    by_test true h = unit_below b column row h
-    by_test false h = tt
+  there : InPicture b column row → (index : ℕ) → index ≡ index_of b column row → Some (record { 0 = index }) ≡ unit_of b column row
+  there i index e = rw (has b column row i, e)
 
--- a unit by a test of its place, and its index
-unit_is : (b : EvcBlock) (column row index : ℕ) (t : Bool) → (t ≡ true → Inside (w_scu b) (h_scu b) column row) → (t ≡ false → Inside (w_scu b) (h_scu b) column row → ⊥) → (t ≡ true → index_of b column row ≡ index) → then_some t (record { 0 = index }) ≡ unit_of b column row
-unit_is b column row index true there gone at = rw (has_unit_lem b column row true there gone, at refl)
-unit_is b column row index false there gone at = rw (has_unit_lem b column row false there gone)
+  pub unit_low : (unit : Option Scu) → unit ≡ unit_of b column row → IfSome unit (λ (scup : Scu). scup.0 < units_of b.pic_w b.pic_h)
+  unit_low None e = tt
+  unit_low (Some scup) e = let f = found scup e in subst (λ (n : ℕ). n < units_of b.pic_w b.pic_h) f.1 (unit_below b column row f.0)
 
 -- what the code finds in a unit is what the definitions of the flags find
 module _ (counts : ℕ → Bool) (b : EvcBlock) (map : List ℕ) (column row : ℕ) where
@@ -103,39 +94,35 @@ module _ (counts : ℕ → Bool) (b : EvcBlock) (map : List ℕ) (column row : �
 
   pub inter_is : (scup : Scu) → Some scup ≡ unit_of b column row → (r : Bool) → r ≡ (counts (word_at map scup.0) && is_coded (word_at map scup.0) && not (is_intra (word_at map scup.0))) → r ≡ is_inter_in counts b map column row
   unfolding is_inter_in
-  inter_is scup e r p = let u = unit_found b column row scup e in p ∙ rw (u.0, u.1)
+  inter_is scup e r p = let u = found b column row scup e in p ∙ rw (u.0, u.1)
 
   pub not_intra_is : (scup : Scu) → Some scup ≡ unit_of b column row → (r : Bool) → r ≡ (counts (word_at map scup.0) && not (is_intra (word_at map scup.0))) → r ≡ is_not_intra_in counts b map column row
   unfolding is_not_intra_in
-  not_intra_is scup e r p = let u = unit_found b column row scup e in p ∙ rw (u.0, u.1)
+  not_intra_is scup e r p = let u = found b column row scup e in p ∙ rw (u.0, u.1)
+
+pub first_row_lem : (b : EvcBlock) → (first_row b - 1) * w_scu b ≡ y_scu b * w_scu b
+first_row_lem b = let e : first_row b - 1 ≡ y_scu b = omega arith in rw e
 
 module _ (b : EvcBlock) (p : Allowed b.pic_w b.x b.w) (q : Allowed b.pic_h b.y b.h) where
   -- ---- the units of the block's first column
 
-  first_row_lem : (first_row b - 1) * w_scu b ≡ y_scu b * w_scu b
-  first_row_lem = let e : first_row b - 1 ≡ y_scu b = omega arith in rw e
-
   pub first_unit : (first : Scu) → first.0 ≡ scup b → unit_of b (first_column b) (first_row b) ≡ Some first
   first_unit first e =
-      sym (unit_is b (first_column b) (first_row b) first.0 true
-      (λ t. record { left = omega arith; right = omega arith; top = omega arith; bottom = omega arith })
-      (λ t i. absurd (subst T t tt))
-      (λ t. omega (arith, first_row_lem)))
+      sym (there b (first_column b) (first_row b) (record { left = omega arith; right = omega arith; top = omega arith; bottom = omega arith }) first.0 (omega (arith, first_row_lem b)))
 
   below_row : (below b - 1) * w_scu b ≡ y_scu b * w_scu b + scuh b * w_scu b
   below_row = let e : below b - 1 ≡ y_scu b + scuh b = omega arith in rw e (add-mul (y_scu b) (scuh b) (w_scu b))
 
-  pub below_unit : (index : ℕ) → index ≡ scup b + scuh b * w_scu b → then_some (not (eqb (b.y + b.h) b.pic_h)) (record { 0 = index }) ≡ unit_of b (first_column b) (below b)
-  below_unit index e =
-      unit_is b _ _ _ _
-      (λ t. let l = apart (b.y + b.h) b.pic_h t q.inside in record { left = omega arith; right = omega arith; top = omega arith; bottom = omega arith })
-      (λ t i. let e = same (b.y + b.h) b.pic_h t in let l = i.bottom in omega arith)
-      (λ t. omega (arith, below_row))
+  pub below_unit : (index : ℕ) → index ≡ scup b + scuh b * w_scu b → (t : Bool) → t ≡ not (eqb (b.y + b.h) b.pic_h) → then_some t (record { 0 = index }) ≡ unit_of b (first_column b) (below b)
+  below_unit index e true t =
+      let l = apart (b.y + b.h) b.pic_h (sym t) q.inside in
+      there b (first_column b) (below b) (record { left = omega arith; right = omega arith; top = omega arith; bottom = omega arith }) index (omega (arith, below_row))
+  below_unit index e false t = rw (has_not b (first_column b) (below b) (λ i. let h = same (b.y + b.h) b.pic_h (sym t) in let l = i.bottom in omega arith))
 
   -- ---- above the block
 
   pub no_row : (column : ℕ) → b.y ≡ 0 → has_unit b column (above b) ≡ false
-  no_row column e = has_unit_lem b column (above b) false (λ t. absurd (subst T (sym t) tt)) (λ t i. let l = i.top in omega arith)
+  no_row column e = has_not b column (above b) (λ i. let l = i.top in omega arith)
 
   pub first_above : None ≡ unit_of b (first_column b) (above b) → b.y ≡ 0
   first_above e = by_test (eqb b.y 0) refl
@@ -144,15 +131,12 @@ module _ (b : EvcBlock) (p : Allowed b.pic_w b.x b.w) (q : Allowed b.pic_h b.y b
       by_test true t = eqb-true b.y 0 t
       by_test false t =
           let l = positive b.y (eqb-false b.y 0 t) in
-          let h = has_unit_lem b (first_column b) (above b) true (λ s. record { left = omega arith; right = omega arith; top = omega arith; bottom = omega arith }) (λ s i. absurd (subst T s tt)) in
+          let h = has b (first_column b) (above b) (record { left = omega arith; right = omega arith; top = omega arith; bottom = omega arith }) in
           absurd (subst T (sym h ∙ no_unit b (first_column b) (above b) e) tt)
 
   -- the block's last unit in the row of one of its first column
   pub last_unit : (row : ℕ) (first : Scu) → Some first ≡ unit_of b (first_column b) row → (index : ℕ) → index ≡ first.0 + scuw b - 1 → Some (record { 0 = index }) ≡ unit_of b (last_column b) row
   last_unit row first e index f =
-      let u = unit_found b (first_column b) row first e in
-      let i = inside (w_scu b) (h_scu b) (first_column b) row u.0 in
-      unit_is b (last_column b) row index true
-      (λ t. record { left = omega arith; right = omega arith; top = i.top; bottom = i.bottom })
-      (λ t i. absurd (subst T t tt))
-      (λ t. omega (arith, u.1))
+      let u = found b (first_column b) row first e in
+      let i = in_picture b (first_column b) row u.0 in
+      there b (last_column b) row (record { left = omega arith; right = omega arith; top = i.top; bottom = i.bottom }) index (omega (arith, u.1))
