@@ -1,10 +1,10 @@
 #![tactic(auto)]
 
-ghost use Rattle.std.specs.Prelude.{◌≡◌, ℕ, ◌<◌, ◌≤◌, Bool, not, ◌&&◌, length, if◌then◌else◌, IfSome, Some};
+ghost use Rattle.std.specs.Prelude.{◌≡◌, ℕ, ◌*◌, ◌<◌, ◌≤◌, Bool, not, ◌&&◌, length, if◌then◌else◌, IfSome, Some};
 ghost use Rattle.evc_def.specs.Blocks.{Allowed};
 ghost use Rattle.evc_def.specs.Codes.{first_of};
 ghost use Rattle.evc_def.specs.Tables.{is_coded, is_intra};
-ghost use Rattle.evc_map.specs.Maps.{units_of, scup};
+ghost use Rattle.evc_map.specs.Maps.{units_of, scup, scuh, w_scu};
 ghost use Rattle.evc_avail.specs.Around.{left_of, first_column, right_of, above, below};
 ghost use Rattle.evc_avail.specs.Flags.{is_inter_in, is_not_intra_in, avail_left_in, avail_right_in, avail_up_in, avail_of, of_picture, avail_checks, get_avail_inter};
 ghost use Rattle.evc_avail.specs.Slices.{of_slice, max_slice_num, slice_checks, get_avail_inter_slice};
@@ -95,11 +95,13 @@ struct Neighbours<'a, R> {
     block: EvcBlock,
     map_scu: &'a [u32],
     region: R,
-    // The block's first unit.
+    // The block's first unit, and how many units lead from it to the row below the block.
     first: Scu,
+    down: Scu,
     ghost allowed: { Allowed block.pic_w block.x block.w × Allowed block.pic_h block.y block.h },
     ghost has_words: { units_of block.pic_w block.pic_h ≤ length map_scu.now },
     ghost first_is: { first.0 ≡ scup block },
+    ghost down_is: { down.0 ≡ scuh block * w_scu block },
 }
 
 impl<'a, R: Region> Neighbours<'a, R> {
@@ -113,6 +115,7 @@ impl<'a, R: Region> Neighbours<'a, R> {
             map_scu,
             region,
             first: evc_map::unit_at(block.pic_w, block.x, block.y),
+            down: Scu(evc_map::scu(block.h).0 * evc_map::scu(block.pic_w).0),
         }
     }
 
@@ -132,8 +135,7 @@ impl<'a, R: Region> Neighbours<'a, R> {
         ensures { let b = self.now.block in
             result ≡ unit_of b (first_column b) (below b) }
     {
-        let down = evc_map::scu(self.block.h).0 * evc_map::scu(self.block.pic_w).0;
-        evc_def::has_below(self.block).then_some(Scu(self.first.0 + down))
+        evc_def::has_below(self.block).then_some(Scu(self.first.0 + self.down.0))
     }
 
     // The unit left of the block, in the row of one in its first column.
@@ -237,7 +239,9 @@ impl<'a, R: Region> Neighbours<'a, R> {
         ensures { let n = self.now in
             result ≡ avail_of (R.counts n.region) n.block n.map_scu.now }
     {
-        self.avail_left() + self.avail_up() + self.avail_right()
+        let left = self.avail_left();
+        let right = self.avail_right();
+        left + self.avail_up() + right
     }
 }
 

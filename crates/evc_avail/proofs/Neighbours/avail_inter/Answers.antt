@@ -4,4 +4,4 @@ use Rattle.evc_avail.proofs.Neighbours.avail_inter.Goals as goal
 
 pub returns : goal.returns
 unfolding avail_of
-returns g c = cc (c.avail_left.ensures.0, c.avail_up.ensures.0, c.avail_right.ensures.0)
+returns g c = cc (c.avail_left-left.ensures.0, c.avail_up.ensures.0, c.avail_right-right.ensures.0)

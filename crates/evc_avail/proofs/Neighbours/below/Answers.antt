@@ -6,4 +6,4 @@ use Rattle.evc_avail.proofs.Neighbours.below.Goals as goal
 pub returns : goal.returns
 returns g c =
     let n = c.args.self.now in
-    c.then_some.ensures ∙ below_unit n.block n.allowed.0 n.allowed.1 _ (cc (n.first_is, c.scu.ensures, c.scu-2.ensures)) _ c.has_below.ensures
+    c.then_some.ensures ∙ below_unit n.block n.allowed.0 n.allowed.1 _ (cc (n.first_is, n.down_is)) _ c.has_below.ensures
