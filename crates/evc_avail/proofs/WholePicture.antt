@@ -30,9 +30,9 @@ module _ (b : EvcBlock) (map : List ℕ) where
   unfolding avail_up_in
   picture_up = refl
 
-  pub picture_inter_flags : avail_inter b map ≡ avail_left b map + avail_up b map + avail_right b map
+  pub picture_all : avail_inter b map ≡ avail_left b map + avail_up b map + avail_right b map
   unfolding avail_of
-  picture_inter_flags = refl
+  picture_all = refl
 
   -- over what counts they are those where every unit does
   pub picture_flags : avail_inter b map ≡ avail_of of_picture b map
