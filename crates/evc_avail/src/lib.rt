@@ -5,7 +5,7 @@ ghost use Rattle.evc_def.specs.Blocks.{Allowed};
 ghost use Rattle.evc_def.specs.Codes.{first_of};
 ghost use Rattle.evc_def.specs.Tables.{is_coded, is_intra};
 ghost use Rattle.evc_map.specs.Maps.{units_of, scup, scuh, w_scu};
-ghost use Rattle.evc_avail.specs.Around.{left_of, first_column, right_of, above, below};
+ghost use Rattle.evc_avail.specs.Around.{left_of, first_column, right_of, above, first_row, below};
 ghost use Rattle.evc_avail.specs.Flags.{is_inter_in, is_not_intra_in, avail_left_in, avail_right_in, avail_up_in, avail_of, of_picture, avail_checks, get_avail_inter};
 ghost use Rattle.evc_avail.specs.Slices.{of_slice, max_slice_num, slice_checks, get_avail_inter_slice};
 ghost use Rattle.evc_avail.specs.Inner.{Seen, unit_of, in_first_column};
@@ -131,6 +131,7 @@ impl<'a, R: Region> Neighbours<'a, R> {
     }
 
     // The unit below the block, in its first column.
+    #[tactic(auto, using(crate::proofs::Around::below_unit))]
     fn below(&self) -> Option<Scu>
         ensures { let b = self.now.block in
             result ≡ unit_of b (first_column b) (below b) }
@@ -158,6 +159,22 @@ impl<'a, R: Region> Neighbours<'a, R> {
         evc_def::has_right(self.block).then_some(Scu(unit.0 + evc_map::scu(self.block.w).0))
     }
 
+    #[tactic(auto, using(crate::proofs::Around::first_unit))]
+    fn left(&self) -> Option<Scu>
+        ensures { let b = self.now.block in
+            result ≡ unit_of b (left_of b) (first_row b) }
+    {
+        self.left_of(self.first)
+    }
+
+    #[tactic(auto, using(crate::proofs::Around::first_unit))]
+    fn right(&self) -> Option<Scu>
+        ensures { let b = self.now.block in
+            result ≡ unit_of b (right_of b) (first_row b) }
+    {
+        self.right_of(self.first)
+    }
+
     fn lower_left(&self) -> Option<Scu>
         ensures { let b = self.now.block in
             result ≡ unit_of b (left_of b) (below b) }
@@ -173,6 +190,7 @@ impl<'a, R: Region> Neighbours<'a, R> {
     }
 
     // Whether a unit is available, coded and not intra. A unit outside the picture is not.
+    #[tactic(auto, using(crate::proofs::Around::no_inter, crate::proofs::Around::inter_is))]
     fn is_inter(&self, unit: Option<Scu>) -> bool
         requires { IfSome unit (λ scup. scup.0 < units_of self.now.block.pic_w self.now.block.pic_h) }
         ensures { let n = self.now in
@@ -184,6 +202,7 @@ impl<'a, R: Region> Neighbours<'a, R> {
         self.region.is_inter(evc_map::mcu_at(self.map_scu, scup))
     }
 
+    #[tactic(auto, using(crate::proofs::Around::not_intra_is))]
     fn is_not_intra(&self, scup: Scu) -> bool
         requires { scup.0 < units_of self.now.block.pic_w self.now.block.pic_h }
         ensures { let n = self.now in
@@ -197,7 +216,7 @@ impl<'a, R: Region> Neighbours<'a, R> {
         ensures { let n = self.now in
             (result ≡ avail_left_in (R.counts n.region) n.block n.map_scu.now) × (result ≤ 130) }
     {
-        let le = self.is_inter(self.left_of(self.first));
+        let le = self.is_inter(self.left());
         if !le {
             return 0;
         }
@@ -209,7 +228,7 @@ impl<'a, R: Region> Neighbours<'a, R> {
         ensures { let n = self.now in
             (result ≡ avail_right_in (R.counts n.region) n.block n.map_scu.now) × (result ≤ 264) }
     {
-        let ri = self.is_inter(self.right_of(self.first));
+        let ri = self.is_inter(self.right());
         if !ri {
             return 0;
         }
@@ -235,6 +254,7 @@ impl<'a, R: Region> Neighbours<'a, R> {
             + flag(up_ri, AVAIL_UP_RI)
     }
 
+    #[tactic(auto, unfolding(crate::specs::Flags::avail_of))]
     fn avail_inter(&self) -> u16
         ensures { let n = self.now in
             result ≡ avail_of (R.counts n.region) n.block n.map_scu.now }
