@@ -6,8 +6,7 @@ use Rattle.evc_def.specs.declared.EvcBlock.{EvcBlock}
 use Rattle.evc_def.proofs.Codes.{accepted, both_accepted}
 use Rattle.evc_def.proofs.Blocks.{allowed_block}
 use Rattle.evc_map.specs.Maps.{units_of}
-use Rattle.evc_avail.specs.Flags.{avail_checks}
-use Rattle.evc_avail.specs.Regions.{answered}
+use Rattle.evc_avail.specs.Flags.{avail_checks, answered}
 
 module _ (checks : List Check) (avail : ℕ) where
   pub refusal : (code : ℕ) → code ≡ first_of checks → (code ≡ 0 → ⊥) → record { code = code; avail = 0 } ≡ answered (first_of checks) avail

@@ -1,35 +1,53 @@
--- The units around an allowed block: whether the picture has them, and their indices from that of the block's first unit. Assumes nothing.
-use Rattle.std.proofs.Common.{◌≡◌, ℕ, zero, suc, ◌+◌, ◌-◌, ◌*◌, ◌<◌, ◌≤◌, Bool, true, false, not, ◌&&◌, T, eqb, ltb, leb, List, sym, refl, ap, ◌∙◌, subst, suc-mul, add-mul, arith, leb→le, ltb-false, ltb-true, eqb-true, le-leb}
+-- The units around an allowed block: whether the picture has them, and their indices. Assumes nothing.
+use Rattle.std.proofs.Common.{◌≡◌, ℕ, zero, suc, ◌+◌, ◌-◌, ◌*◌, ◌<◌, ◌≤◌, Bool, true, false, not, ◌&&◌, T, eqb, ltb, leb, List, Option, Some, None, IfSome, sym, refl, ap, ◌∙◌, subst, add-mul, arith, leb→le, ltb-false, ltb-true, eqb-true, le-leb}
+use Rattle.std.proofs.lemmas.Option.{none-some, same_Some}
+use Rattle.std.specs.Bool.{then_some}
 use borrow.Author.Tests.{eqb-false, not-true, not-false}
 use mir.Facts.{and_yes}
 use Rattle.evc_def.specs.Blocks.{Allowed}
 use Rattle.evc_def.specs.Tables.{is_coded, is_intra}
 use Rattle.evc_def.specs.declared.EvcBlock.{EvcBlock}
-use Rattle.evc_map.specs.Maps.{units_of, word_at, w_scu, h_scu, x_scu, y_scu, scup, scuw, scuh}
+use Rattle.evc_def.specs.declared.Scu.{Scu}
+use Rattle.evc_map.specs.Maps.{units_of, word_at, w_scu, h_scu, y_scu, scup, scuw, scuh}
 use Rattle.evc_map.proofs.Units.{index_below}
-use Rattle.evc_avail.specs.Around.{left_of, first_column, last_column, right_of, above, first_row, below, has_unit, index_of}
-use Rattle.evc_avail.specs.Flags.{is_inter, is_not_intra}
-use Rattle.evc_avail.specs.Regions.{is_inter_in, is_not_intra_in}
+use Rattle.evc_avail.specs.Around.{first_column, last_column, above, first_row, below, has_unit, index_of}
+use Rattle.evc_avail.specs.Flags.{is_inter_in, is_not_intra_in}
+use Rattle.evc_avail.specs.Inner.{unit_of}
 
 -- a unit of the picture, by its column and row
-record Inside (w h column row : ℕ) : Type 0 where
-  left : 1 ≤ column
-  right : column ≤ w
-  top : 1 ≤ row
-  bottom : row ≤ h
+pub record InPicture (b : EvcBlock) (column row : ℕ) : Type 0 where
+  pub left : 1 ≤ column
+  pub right : column ≤ w_scu b
+  pub top : 1 ≤ row
+  pub bottom : row ≤ h_scu b
 
-inside : (w h column row : ℕ) → (leb 1 column && leb column w && leb 1 row && leb row h) ≡ true → Inside w h column row
-inside w h column row e =
-    let t = subst T (sym e) tt in
-    let a = and_yes (leb 1 column && leb column w && leb 1 row) (leb row h) t in
-    let b = and_yes (leb 1 column && leb column w) (leb 1 row) a.0 in
-    let d = and_yes (leb 1 column) (leb column w) b.0 in
-    record {
-      left = leb→le 1 column d.0;
-      right = leb→le column w d.1;
-      top = leb→le 1 row b.1;
-      bottom = leb→le row h a.1;
-    }
+module _ (b : EvcBlock) (column row : ℕ) where
+  pub in_picture : has_unit b column row ≡ true → InPicture b column row
+  in_picture e =
+      let t = subst T (sym e) tt in
+      let a = and_yes (leb 1 column && leb column (w_scu b) && leb 1 row) (leb row (h_scu b)) t in
+      let d = and_yes (leb 1 column && leb column (w_scu b)) (leb 1 row) a.0 in
+      let f = and_yes (leb 1 column) (leb column (w_scu b)) d.0 in
+      record {
+        left = leb→le 1 column f.0;
+        right = leb→le column (w_scu b) f.1;
+        top = leb→le 1 row d.1;
+        bottom = leb→le row (h_scu b) a.1;
+      }
+
+  has : InPicture b column row → has_unit b column row ≡ true
+  has i = simp (le-leb 1 column i.left, le-leb column (w_scu b) i.right, le-leb 1 row i.top, le-leb row (h_scu b) i.bottom)
+
+  pub has_not : (InPicture b column row → ⊥) → has_unit b column row ≡ false
+  has_not n = by_test (has_unit b column row) refl
+    where
+      by_test : (s : Bool) → has_unit b column row ≡ s → has_unit b column row ≡ false
+      by_test true e = absurd (n (in_picture e))
+      by_test false e = e
+
+  -- a unit that the picture has is one of its units
+  pub unit_below : has_unit b column row ≡ true → index_of b column row < units_of b.pic_w b.pic_h
+  unit_below e = let i = in_picture e in index_below b.pic_w b.pic_h (column - 1) (row - 1) (omega arith) (omega arith)
 
 -- two numbers that a test found to differ
 apart : (a b : ℕ) → not (eqb a b) ≡ true → a ≤ b → a < b
@@ -43,149 +61,82 @@ pub positive : (a : ℕ) → (a ≡ 0 → ⊥) → 0 < a
 positive zero n = absurd (n refl)
 positive (suc k) n = omega arith
 
-pub apart_0 : (a : ℕ) → not (eqb a 0) ≡ true → 0 < a
-apart_0 a t = positive a (eqb-false a 0 (not-true (eqb a 0) t))
-
 same : (a b : ℕ) → not (eqb a b) ≡ false → a ≡ b
 same a b t = eqb-true a b (not-false (eqb a b) t)
 
--- a unit at an index, which the picture has where a test says so
-pub record Unit (b : EvcBlock) (column row index : ℕ) (has : Bool) : Type 0 where
-  pub exists : has_unit b column row ≡ has
-  pub index_is : has ≡ true → index_of b column row ≡ index
-  pub index_low : has ≡ true → index < units_of b.pic_w b.pic_h
+none_then : (t : Bool) (x : Scu) → None ≡ then_some t x → t ≡ false
+none_then true x e = absurd (none-some x e)
+none_then false x e = refl
 
-has_unit_lem : (b : EvcBlock) (column row : ℕ) (t : Bool) → (t ≡ true → Inside (w_scu b) (h_scu b) column row) → (t ≡ false → Inside (w_scu b) (h_scu b) column row → ⊥) → has_unit b column row ≡ t
-has_unit_lem b column row true there gone =
-    let i = there refl in
-    simp (le-leb 1 column i.left, le-leb column (w_scu b) i.right, le-leb 1 row i.top, le-leb row (h_scu b) i.bottom)
-has_unit_lem b column row false there gone = by_test (has_unit b column row) refl
-  where
-    by_test : (s : Bool) → has_unit b column row ≡ s → has_unit b column row ≡ false
-    by_test true e = absurd (gone refl (inside (w_scu b) (h_scu b) column row e))
-    by_test false e = e
+some_then : (t : Bool) (x y : Scu) → Some y ≡ then_some t x → (t ≡ true) × (x ≡ y)
+some_then true x y e = (refl, sym (same_Some y x e))
+some_then false x y e = absurd (none-some y (sym e))
 
-low : (b : EvcBlock) (column row : ℕ) → Inside (w_scu b) (h_scu b) column row → index_of b column row < units_of b.pic_w b.pic_h
-low b column row i = index_below b.pic_w b.pic_h (column - 1) (row - 1) (omega arith) (omega arith)
+module _ (b : EvcBlock) (column row : ℕ) where
+  no_unit : None ≡ unit_of b column row → has_unit b column row ≡ false
+  no_unit e = none_then _ _ e
 
--- a unit that the picture has is one of its units
-pub unit_below : (b : EvcBlock) (column row : ℕ) → has_unit b column row ≡ true → index_of b column row < units_of b.pic_w b.pic_h
-unit_below b column row e = low b column row (inside (w_scu b) (h_scu b) column row e)
+  found : (scup : Scu) → Some scup ≡ unit_of b column row → (has_unit b column row ≡ true) × (index_of b column row ≡ scup.0)
+  found scup e = let f = some_then _ _ scup e in (f.0, ap (λ (s : Scu). s.0) f.1)
 
-unit : (b : EvcBlock) (column row index : ℕ) (t : Bool) → (t ≡ true → Inside (w_scu b) (h_scu b) column row) → (t ≡ false → Inside (w_scu b) (h_scu b) column row → ⊥) → (t ≡ true → index_of b column row ≡ index) → Unit b column row index t
-unit b column row index t there gone at =
-    record {
-      exists = has_unit_lem b column row t there gone;
-      index_is = at;
-      index_low = λ e. subst (λ (n : ℕ). n < units_of b.pic_w b.pic_h) (at e) (low b column row (there e));
-    }
+  there : InPicture b column row → (index : ℕ) → index ≡ index_of b column row → Some (record { 0 = index }) ≡ unit_of b column row
+  there i index e = rw (has b column row i, e)
 
--- what the code finds there is what the definitions of the flags find
-pub inter_is : (b : EvcBlock) (map : List ℕ) {column row index : ℕ} (t : Bool) → Unit b column row index t → (n : ℕ) (r : Bool) → n ≡ index → r ≡ (t && is_coded (word_at map n) && not (is_intra (word_at map n))) → r ≡ is_inter b map column row
-unfolding is_inter
-inter_is b map true u n r e p = p ∙ rw (e, u.exists, u.index_is refl)
-inter_is b map false u n r e p = p ∙ rw u.exists
+  pub unit_low : (unit : Option Scu) → unit ≡ unit_of b column row → IfSome unit (λ (scup : Scu). scup.0 < units_of b.pic_w b.pic_h)
+  unit_low None e = tt
+  unit_low (Some scup) e = let f = found scup e in subst (λ (n : ℕ). n < units_of b.pic_w b.pic_h) f.1 (unit_below b column row f.0)
 
-pub inter_in_is : (counts : ℕ → Bool) (b : EvcBlock) (map : List ℕ) {column row index : ℕ} (t : Bool) → Unit b column row index t → (n : ℕ) (r : Bool) → n ≡ index → r ≡ (t && counts (word_at map n) && is_coded (word_at map n) && not (is_intra (word_at map n))) → r ≡ is_inter_in counts b map column row
-unfolding is_inter_in
-inter_in_is counts b map true u n r e p = p ∙ rw (e, u.exists, u.index_is refl)
-inter_in_is counts b map false u n r e p = p ∙ rw u.exists
+-- what the code finds in a unit is what the definitions of the flags find
+module _ (counts : ℕ → Bool) (b : EvcBlock) (map : List ℕ) (column row : ℕ) where
+  pub no_inter : None ≡ unit_of b column row → false ≡ is_inter_in counts b map column row
+  unfolding is_inter_in
+  no_inter e = rw (no_unit b column row e)
 
--- a unit that was found is there
-pub found : (r t s u : Bool) → r ≡ (t && s && u) → r ≡ true → t ≡ true
-found r true s u e f = refl
-found r false s u e f = sym e ∙ f
+  pub inter_is : (scup : Scu) → Some scup ≡ unit_of b column row → (r : Bool) → r ≡ (counts (word_at map scup.0) && is_coded (word_at map scup.0) && not (is_intra (word_at map scup.0))) → r ≡ is_inter_in counts b map column row
+  unfolding is_inter_in
+  inter_is scup e r p = let u = found b column row scup e in p ∙ rw (u.0, u.1)
 
-pub found_in : (r t s u v : Bool) → r ≡ (t && s && u && v) → r ≡ true → t ≡ true
-found_in r true s u v e f = refl
-found_in r false s u v e f = sym e ∙ f
+  pub not_intra_is : (scup : Scu) → Some scup ≡ unit_of b column row → (r : Bool) → r ≡ (counts (word_at map scup.0) && not (is_intra (word_at map scup.0))) → r ≡ is_not_intra_in counts b map column row
+  unfolding is_not_intra_in
+  not_intra_is scup e r p = let u = found b column row scup e in p ∙ rw (u.0, u.1)
 
-pub not_intra_is : (b : EvcBlock) (map : List ℕ) {column row index : ℕ} → Unit b column row index true → (n : ℕ) (r : Bool) → n ≡ index → r ≡ not (is_intra (word_at map n)) → r ≡ is_not_intra b map column row
-unfolding is_not_intra
-not_intra_is b map u n r e p = p ∙ rw (e, u.exists, u.index_is refl)
-
-pub not_intra_in_is : (counts : ℕ → Bool) (b : EvcBlock) (map : List ℕ) {column row index : ℕ} → Unit b column row index true → (n : ℕ) (r : Bool) → n ≡ index → r ≡ (counts (word_at map n) && not (is_intra (word_at map n))) → r ≡ is_not_intra_in counts b map column row
-unfolding is_not_intra_in
-not_intra_in_is counts b map u n r e p = p ∙ rw (e, u.exists, u.index_is refl)
+pub first_row_lem : (b : EvcBlock) → (first_row b - 1) * w_scu b ≡ y_scu b * w_scu b
+first_row_lem b = let e : first_row b - 1 ≡ y_scu b = omega arith in rw e
 
 module _ (b : EvcBlock) (p : Allowed b.pic_w b.x b.w) (q : Allowed b.pic_h b.y b.h) where
-  -- ---- the row of the block's first unit, and the one below the block
+  -- ---- the units of the block's first column
 
-  first_row_lem : (first_row b - 1) * w_scu b ≡ y_scu b * w_scu b
-  first_row_lem = let e : first_row b - 1 ≡ y_scu b = omega arith in rw e
+  pub first_unit : (first : Scu) → first.0 ≡ scup b → unit_of b (first_column b) (first_row b) ≡ Some first
+  first_unit first e =
+      sym (there b (first_column b) (first_row b) (record { left = omega arith; right = omega arith; top = omega arith; bottom = omega arith }) first.0 (omega (arith, first_row_lem b)))
 
   below_row : (below b - 1) * w_scu b ≡ y_scu b * w_scu b + scuh b * w_scu b
   below_row = let e : below b - 1 ≡ y_scu b + scuh b = omega arith in rw e (add-mul (y_scu b) (scuh b) (w_scu b))
 
-  above_row : 0 < b.y → (above b - 1) * w_scu b + w_scu b ≡ y_scu b * w_scu b
-  above_row l = let e : suc (y_scu b - 1) ≡ y_scu b = omega arith in sym (suc-mul (y_scu b - 1) (w_scu b)) ∙ ap (λ (n : ℕ). n * w_scu b) e
-
-  -- ---- beside the block
-
-  pub left_unit : Unit b (left_of b) (first_row b) (scup b - 1) (not (eqb b.x 0))
-  left_unit =
-      unit b _ _ _ _
-      (λ t. let l = apart_0 b.x t in record { left = omega arith; right = omega arith; top = omega arith; bottom = omega arith })
-      (λ t i. let e = same b.x 0 t in let l = i.left in omega arith)
-      (λ t. let l = apart_0 b.x t in omega (arith, first_row_lem))
-
-  pub right_unit : Unit b (right_of b) (first_row b) (scup b + scuw b) (not (eqb (b.x + b.w) b.pic_w))
-  right_unit =
-      unit b _ _ _ _
-      (λ t. let l = apart (b.x + b.w) b.pic_w t p.inside in record { left = omega arith; right = omega arith; top = omega arith; bottom = omega arith })
-      (λ t i. let e = same (b.x + b.w) b.pic_w t in let l = i.right in omega arith)
-      (λ t. omega (arith, first_row_lem))
-
-  -- the two below these, where these are there
-  pub lower_left_unit : not (eqb b.x 0) ≡ true → Unit b (left_of b) (below b) (scup b + scuh b * w_scu b - 1) (not (eqb (b.y + b.h) b.pic_h))
-  lower_left_unit s =
-      let k = apart_0 b.x s in
-      unit b _ _ _ _
-      (λ t. let l = apart (b.y + b.h) b.pic_h t q.inside in record { left = omega arith; right = omega arith; top = omega arith; bottom = omega arith })
-      (λ t i. let e = same (b.y + b.h) b.pic_h t in let l = i.bottom in omega arith)
-      (λ t. omega (arith, below_row))
-
-  pub lower_right_unit : not (eqb (b.x + b.w) b.pic_w) ≡ true → Unit b (right_of b) (below b) (scup b + scuw b + scuh b * w_scu b) (not (eqb (b.y + b.h) b.pic_h))
-  lower_right_unit s =
-      let k = apart (b.x + b.w) b.pic_w s p.inside in
-      unit b _ _ _ _
-      (λ t. let l = apart (b.y + b.h) b.pic_h t q.inside in record { left = omega arith; right = omega arith; top = omega arith; bottom = omega arith })
-      (λ t i. let e = same (b.y + b.h) b.pic_h t in let l = i.bottom in omega arith)
-      (λ t. omega (arith, below_row))
+  pub below_unit : (index : ℕ) → index ≡ scup b + scuh b * w_scu b → (t : Bool) → t ≡ not (eqb (b.y + b.h) b.pic_h) → then_some t (record { 0 = index }) ≡ unit_of b (first_column b) (below b)
+  below_unit index e true t =
+      let l = apart (b.y + b.h) b.pic_h (sym t) q.inside in
+      there b (first_column b) (below b) (record { left = omega arith; right = omega arith; top = omega arith; bottom = omega arith }) index (omega (arith, below_row))
+  below_unit index e false t = rw (has_not b (first_column b) (below b) (λ i. let h = same (b.y + b.h) b.pic_h (sym t) in let l = i.bottom in omega arith))
 
   -- ---- above the block
 
   pub no_row : (column : ℕ) → b.y ≡ 0 → has_unit b column (above b) ≡ false
-  no_row column e = has_unit_lem b column (above b) false (λ t. absurd (subst T (sym t) tt)) (λ t i. let l = i.top in omega arith)
+  no_row column e = has_not b column (above b) (λ i. let l = i.top in omega arith)
 
-  module _ (l : 0 < b.y) where
-    pub row_before : w_scu b + x_scu b ≤ scup b
-    row_before = omega (arith, above_row l)
+  pub first_above : None ≡ unit_of b (first_column b) (above b) → b.y ≡ 0
+  first_above e = by_test (eqb b.y 0) refl
+    where
+      by_test : (t : Bool) → eqb b.y 0 ≡ t → b.y ≡ 0
+      by_test true t = eqb-true b.y 0 t
+      by_test false t =
+          let l = positive b.y (eqb-false b.y 0 t) in
+          let h = has b (first_column b) (above b) (record { left = omega arith; right = omega arith; top = omega arith; bottom = omega arith }) in
+          absurd (subst T (sym h ∙ no_unit b (first_column b) (above b) e) tt)
 
-    pub up_unit : Unit b (first_column b) (above b) (scup b - w_scu b) true
-    up_unit =
-        unit b _ _ _ _
-        (λ t. record { left = omega arith; right = omega arith; top = omega arith; bottom = omega arith })
-        (λ t i. absurd (subst T t tt))
-        (λ t. omega (arith, above_row l))
-
-    pub right_up_unit : Unit b (last_column b) (above b) (scup b - w_scu b + scuw b - 1) true
-    right_up_unit =
-        unit b _ _ _ _
-        (λ t. record { left = omega arith; right = omega arith; top = omega arith; bottom = omega arith })
-        (λ t i. absurd (subst T t tt))
-        (λ t. omega (arith, above_row l))
-
-    pub up_left_unit : Unit b (left_of b) (above b) (scup b - w_scu b - 1) (not (eqb b.x 0))
-    up_left_unit =
-        unit b _ _ _ _
-        (λ t. let k = apart_0 b.x t in record { left = omega arith; right = omega arith; top = omega arith; bottom = omega arith })
-        (λ t i. let e = same b.x 0 t in let k = i.left in omega arith)
-        (λ t. let k = apart_0 b.x t in omega (arith, above_row l))
-
-    pub up_right_unit : Unit b (right_of b) (above b) (scup b - w_scu b + scuw b) (not (eqb (b.x + b.w) b.pic_w))
-    up_right_unit =
-        unit b _ _ _ _
-        (λ t. let k = apart (b.x + b.w) b.pic_w t p.inside in record { left = omega arith; right = omega arith; top = omega arith; bottom = omega arith })
-        (λ t i. let e = same (b.x + b.w) b.pic_w t in let k = i.right in omega arith)
-        (λ t. omega (arith, above_row l))
+  -- the block's last unit in the row of one of its first column
+  pub last_unit : (row : ℕ) (first : Scu) → Some first ≡ unit_of b (first_column b) row → (index : ℕ) → index ≡ first.0 + scuw b - 1 → Some (record { 0 = index }) ≡ unit_of b (last_column b) row
+  last_unit row first e index f =
+      let u = found b (first_column b) row first e in
+      let i = in_picture b (first_column b) row u.0 in
+      there b (last_column b) row (record { left = omega arith; right = omega arith; top = i.top; bottom = i.bottom }) index (omega (arith, u.1))

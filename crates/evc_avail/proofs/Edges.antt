@@ -2,8 +2,8 @@
 use Rattle.std.proofs.Common.{refl}
 use Rattle.evc_def.specs.Blocks.{bad_picture, bad_block}
 use Rattle.evc_def.specs.Codes.{first_of}
-use Rattle.evc_avail.specs.Flags.{is_inter, is_not_intra, avail_left, avail_right, avail_up, avail_inter, get_avail_inter, FlagEdges}
+use Rattle.evc_avail.specs.Flags.{is_inter_in, is_not_intra_in, avail_left_in, avail_right_in, avail_up_in, avail_of, get_avail_inter, FlagEdges}
 
 pub flag_edges : FlagEdges
-unfolding get_avail_inter avail_inter avail_left avail_right avail_up is_inter is_not_intra first_of bad_picture bad_block
+unfolding get_avail_inter avail_of avail_left_in avail_right_in avail_up_in is_inter_in is_not_intra_in first_of bad_picture bad_block
 flag_edges = (refl, refl)

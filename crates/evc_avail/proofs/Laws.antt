@@ -3,8 +3,7 @@ use Rattle.std.proofs.Common.{◌≡◌, ℕ, ◌+◌, ◌*◌, ◌/◌, ◌%◌
 use Rattle.evc_def.specs.Tables.{is_bit}
 use Rattle.evc_def.specs.declared.EvcBlock.{EvcBlock}
 use Rattle.evc_avail.specs.Around.{left_of, first_column, last_column, right_of, above, first_row, below}
-use Rattle.evc_avail.specs.Flags.{flag, is_inter, is_not_intra, avail_left, avail_right, avail_up, avail_inter}
-use Rattle.evc_avail.specs.Regions.{is_inter_in, is_not_intra_in, avail_left_in, avail_right_in, avail_up_in, avail_of}
+use Rattle.evc_avail.specs.Flags.{flag, is_inter_in, is_not_intra_in, avail_left_in, avail_right_in, avail_up_in, avail_of, of_picture, avail_inter}
 
 abbrev pub one : Bool → ℕ
 one set = cond set 1 0
@@ -38,15 +37,7 @@ eight_flags le lo-le up ri-up up_le up-ri ri lo-ri =
     (omega (arith, weight 2 le, weight 128 lo-le, weight 1 up, weight 512 ri-up, weight 32 up_le, weight 64 up-ri, weight 8 ri, weight 256 lo-ri)) in
     (s.0, ne_eqb _ 1 (λ e. clash s.1 e), ne_eqb _ 1 (λ e. clash s.2 e))
 
-pub flags_named : (b : EvcBlock) (map : List ℕ) → (avail_inter b map < 1024) × (is_bit 2 (avail_inter b map) ≡ false) × (is_bit 4 (avail_inter b map) ≡ false)
-unfolding avail_inter avail_left avail_right avail_up
-flags_named b map =
-    let left = is_inter b map (left_of b) (first_row b) in
-    let right = is_inter b map (right_of b) (first_row b) in
-    eight_flags left (left && is_inter b map (left_of b) (below b)) (is_not_intra b map (first_column b) (above b)) (is_not_intra b map (last_column b) (above b))
-    (is_inter b map (left_of b) (above b)) (is_inter b map (right_of b) (above b)) right (right && is_inter b map (right_of b) (below b))
-
--- and over a part of the picture
+-- whatever counts as available
 pub flags_named_in : (counts : ℕ → Bool) (b : EvcBlock) (map : List ℕ) → (avail_of counts b map < 1024) × (is_bit 2 (avail_of counts b map) ≡ false) × (is_bit 4 (avail_of counts b map) ≡ false)
 unfolding avail_of avail_left_in avail_right_in avail_up_in
 flags_named_in counts b map =
@@ -54,3 +45,7 @@ flags_named_in counts b map =
     let right = is_inter_in counts b map (right_of b) (first_row b) in
     eight_flags left (left && is_inter_in counts b map (left_of b) (below b)) (is_not_intra_in counts b map (first_column b) (above b)) (is_not_intra_in counts b map (last_column b) (above b))
     (is_inter_in counts b map (left_of b) (above b)) (is_inter_in counts b map (right_of b) (above b)) right (right && is_inter_in counts b map (right_of b) (below b))
+
+-- and over the whole picture
+pub flags_named : (b : EvcBlock) (map : List ℕ) → (avail_inter b map < 1024) × (is_bit 2 (avail_inter b map) ≡ false) × (is_bit 4 (avail_inter b map) ≡ false)
+flags_named = flags_named_in of_picture

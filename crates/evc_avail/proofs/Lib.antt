@@ -2,6 +2,6 @@ pub mod Around
 pub mod Answers
 pub mod Seen
 pub mod Flags
-pub mod RegionFlags
+pub mod WholePicture
 pub mod Laws
 pub mod Edges

@@ -1,22 +1,21 @@
--- The vocabulary of inner contracts: the part of a picture that the code passes.
-use Rattle.std.specs.Prelude.{◌≡◌, ℕ, Bool, true, nat_eq}
+-- The vocabulary of inner contracts.
+use Rattle.std.specs.Prelude.{◌≡◌, ℕ, Bool, true, nat_eq, Option, Some}
+use Rattle.std.specs.Bool.{then_some}
 use Rattle.evc_def.specs.Tables.{is_coded, is_intra, slice_num}
-use Rattle.evc_avail.specs.Regions.{of_picture}
-use Rattle.evc_avail.specs.Slices.{of_slice}
-use Rattle.evc_avail.specs.declared.Region.{Region}
+use Rattle.evc_def.specs.declared.EvcBlock.{EvcBlock}
+use Rattle.evc_def.specs.declared.Scu.{Scu}
+use Rattle.evc_avail.specs.Around.{first_column, has_unit, index_of}
 
--- its units, by their words
-abbrev pub units_in : Region → ℕ → Bool
-units_in Region.Picture = of_picture
-units_in (Region.Slice slice) = of_slice slice
+-- a word whose slice number is 0 if the unit counts, and which then has the other bits of the unit's word
+pub record Seen (counts : ℕ → Bool) (word seen : ℕ) : Type 0 where
+  pub available : nat_eq (slice_num seen) 0 ≡ counts word
+  pub coded : counts word ≡ true → is_coded seen ≡ is_coded word
+  pub intra : counts word ≡ true → is_intra seen ≡ is_intra word
 
--- its slice number, which is to be an allowed one
-abbrev pub slice_in : Region → ℕ
-slice_in Region.Picture = 0
-slice_in (Region.Slice slice) = slice
+-- the unit of a column and a row, where the picture has one
+abbrev pub unit_of : EvcBlock → ℕ → ℕ → Option Scu
+unit_of b column row = then_some (has_unit b column row) (record { 0 = index_of b column row })
 
--- a word whose slice number is 0 if the unit is one of the region's, and which then has the other bits of the unit's word
-pub record Seen (region : Region) (word seen : ℕ) : Type 0 where
-  pub available : nat_eq (slice_num seen) 0 ≡ units_in region word
-  pub coded : units_in region word ≡ true → is_coded seen ≡ is_coded word
-  pub intra : units_in region word ≡ true → is_intra seen ≡ is_intra word
+-- a unit in the block's first column
+abbrev pub in_first_column : EvcBlock → Scu → Type 0
+in_first_column b unit = (row : ℕ) × (unit_of b (first_column b) row ≡ Some unit)

@@ -1,5 +1,4 @@
 pub mod Around
 pub mod Flags
-pub mod Regions
 pub mod Slices
 pub mod Inner

@@ -3,8 +3,7 @@ use Rattle.std.specs.Prelude.{ℕ, Bool, List, [], ◌∷◌, ◌++◌, length, 
 use Rattle.evc_def.specs.Codes.{Check, ◌when◌, first_of}
 use Rattle.evc_def.specs.Tables.{slice_num}
 use Rattle.evc_def.specs.declared.EvcBlock.{EvcBlock}
-use Rattle.evc_avail.specs.Flags.{avail_checks}
-use Rattle.evc_avail.specs.Regions.{avail_of, answered}
+use Rattle.evc_avail.specs.Flags.{avail_of, answered, avail_checks}
 use Rattle.evc_avail.specs.declared.EvcAvail.{EvcAvail}
 
 -- "treats a unit of another slice as unavailable for every flag, up and right-up too"

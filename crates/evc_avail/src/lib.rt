@@ -1,14 +1,14 @@
 #![tactic(auto)]
 
-ghost use Rattle.std.specs.Prelude.{◌≡◌, ◌-◌, ◌*◌, ◌<◌, ◌≤◌, true, not, ◌&&◌, length, if◌then◌else◌};
+ghost use Rattle.std.specs.Prelude.{◌≡◌, ℕ, ◌*◌, ◌<◌, ◌≤◌, Bool, not, ◌&&◌, length, if◌then◌else◌, IfSome, Some};
 ghost use Rattle.evc_def.specs.Blocks.{Allowed};
 ghost use Rattle.evc_def.specs.Codes.{first_of};
 ghost use Rattle.evc_def.specs.Tables.{is_coded, is_intra};
-ghost use Rattle.evc_map.specs.Maps.{units_of, most_units, word_at, w_scu, scup, scuh};
-ghost use Rattle.evc_avail.specs.Flags.{avail_left, avail_right, avail_up, avail_inter, avail_checks, get_avail_inter};
-ghost use Rattle.evc_avail.specs.Regions.{avail_left_in, avail_right_in, avail_up_in, avail_of};
+ghost use Rattle.evc_map.specs.Maps.{units_of, scup, scuh, w_scu};
+ghost use Rattle.evc_avail.specs.Around.{left_of, first_column, right_of, above, first_row, below};
+ghost use Rattle.evc_avail.specs.Flags.{is_inter_in, is_not_intra_in, avail_left_in, avail_right_in, avail_up_in, avail_of, of_picture, avail_checks, get_avail_inter};
 ghost use Rattle.evc_avail.specs.Slices.{of_slice, max_slice_num, slice_checks, get_avail_inter_slice};
-ghost use Rattle.evc_avail.specs.Inner.{units_in, slice_in, Seen};
+ghost use Rattle.evc_avail.specs.Inner.{Seen, unit_of, in_first_column};
 
 use evc_def::{
     AVAIL_LE, AVAIL_LO_LE, AVAIL_LO_RI, AVAIL_RI, AVAIL_RI_UP, AVAIL_UP, AVAIL_UP_LE, AVAIL_UP_RI,
@@ -22,23 +22,64 @@ pub struct EvcAvail {
     pub avail: u16,
 }
 
-// Whether the unit that lies `back` before an index is coded and not intra. A unit outside the picture is not.
-fn is_inter(map_scu: &[u32], has: bool, scup: Scu, back: Scu) -> bool
-    requires { has ≡ true → (back.0 ≤ scup.0) × (scup.0 - back.0 < length map_scu.now) }
-    ensures { let word = word_at map_scu.now (scup.0 - back.0) in
-        result ≡ (has && is_coded word && not (is_intra word)) }
-{
-    if !has {
-        return false;
-    }
-    evc_map::mcu_at(map_scu, Scu(scup.0 - back.0)).IS_COD_NIF()
+// The part of a picture whose units count as available.
+trait Region: Copy {
+    // Which units do, by their words.
+    ghost counts: { Self → ℕ → Bool };
+
+    // Whether a unit is available, coded and not intra.
+    fn is_inter(self, mcu: MCU) -> bool
+        ensures { result ≡ (counts self mcu.0 && is_coded mcu.0 && not (is_intra mcu.0)) };
+
+    fn is_not_intra(self, mcu: MCU) -> bool
+        ensures { result ≡ (counts self mcu.0 && not (is_intra mcu.0)) };
 }
 
-fn is_not_intra(map_scu: &[u32], scup: Scu) -> bool
-    requires { scup.0 < length map_scu.now }
-    ensures { result ≡ not (is_intra (word_at map_scu.now scup.0)) }
-{
-    !evc_map::mcu_at(map_scu, scup).GET_IF()
+// All of it.
+#[derive(Clone, Copy)]
+struct Picture;
+
+impl Region for Picture {
+    ghost counts = { λ picture. of_picture };
+
+    fn is_inter(self, mcu: MCU) -> bool {
+        mcu.IS_COD_NIF()
+    }
+
+    fn is_not_intra(self, mcu: MCU) -> bool {
+        !mcu.GET_IF()
+    }
+}
+
+// The slice of a number.
+#[derive(Clone, Copy)]
+struct Slice {
+    slice_num: u32,
+    ghost in_range: { slice_num ≤ max_slice_num },
+}
+
+impl Slice {
+    // A unit's word with a slice number of 0 if the unit is one of the slice's, and of something else if not. The optimizer
+    // then makes one test of slice, coded and intra.
+    fn seen(self, mcu: MCU) -> MCU
+        ensures { Seen (of_slice self.slice_num) mcu.0 result.0 }
+    {
+        MCU(std::num::wrapping_sub_u32(mcu.0, self.slice_num))
+    }
+}
+
+impl Region for Slice {
+    ghost counts = { λ slice. of_slice slice.slice_num };
+
+    fn is_inter(self, mcu: MCU) -> bool {
+        let seen = self.seen(mcu);
+        (seen.GET_SN() == 0) & seen.IS_COD_NIF()
+    }
+
+    fn is_not_intra(self, mcu: MCU) -> bool {
+        let seen = self.seen(mcu);
+        (seen.GET_SN() == 0) & !seen.GET_IF()
+    }
 }
 
 // `bit` where it is set.
@@ -48,90 +89,180 @@ fn flag(set: bool, bit: u16) -> u16
     if set { bit } else { 0 }
 }
 
-// How many units the maps have from the block's first row to the row below it.
-fn block_rows(b: EvcBlock) -> Scu
-    requires { Allowed b.pic_w b.x b.w × Allowed b.pic_h b.y b.h }
-    ensures { (result.0 ≡ scuh b * w_scu b) × (result.0 ≤ most_units) }
-{
-    Scu(evc_map::scu(b.h).0 * evc_map::scu(b.pic_w).0)
+// The units around a block, in its picture's words, and which of them count. A unit that the picture has is given by its index.
+#[derive(Drop)]
+struct Neighbours<'a, R> {
+    block: EvcBlock,
+    map_scu: &'a [u32],
+    region: R,
+    // The block's first unit, and how many units lead from it to the row below the block.
+    first: Scu,
+    down: Scu,
+    ghost allowed: { Allowed block.pic_w block.x block.w × Allowed block.pic_h block.y block.h },
+    ghost has_words: { units_of block.pic_w block.pic_h ≤ length map_scu.now },
+    ghost first_is: { first.0 ≡ scup block },
+    ghost down_is: { down.0 ≡ scuh block * w_scu block },
 }
 
-// `first` is the index of the block's first unit, and `down` leads to the row below the block.
-fn avail_left(b: EvcBlock, map_scu: &[u32], first: Scu, down: Scu) -> u16
-    requires pic_h_in_bounds { units_of b.pic_w b.pic_h ≤ length map_scu.now }
-    requires allowed { Allowed b.pic_w b.x b.w × Allowed b.pic_h b.y b.h }
-    requires first_value { (first.0 ≡ scup b) × (down.0 ≡ scuh b * w_scu b) × (down.0 ≤ most_units) }
-    ensures { (result ≡ avail_left b map_scu.now) × (result ≤ 130) }
-{
-    let le = is_inter(map_scu, b.x != 0, first, Scu(1));
-    if !le {
-        return 0;
+impl<'a, R: Region> Neighbours<'a, R> {
+    fn new(block: EvcBlock, map_scu: &'a [u32], region: R) -> Neighbours<'a, R>
+        requires allowed { Allowed block.pic_w block.x block.w × Allowed block.pic_h block.y block.h }
+        requires has_words { units_of block.pic_w block.pic_h ≤ length map_scu.now }
+        ensures { (result.block ≡ block) × (result.map_scu.now ≡ map_scu.now) × (result.region ≡ region) }
+    {
+        Neighbours {
+            block,
+            map_scu,
+            region,
+            first: evc_map::unit_at(block.pic_w, block.x, block.y),
+            down: Scu(evc_map::scu(block.h).0 * evc_map::scu(block.pic_w).0),
+        }
     }
-    let lo_le = is_inter(
-        map_scu,
-        evc_def::has_below(b),
-        Scu(first.0 + down.0),
-        Scu(1),
-    );
-    AVAIL_LE + flag(lo_le, AVAIL_LO_LE)
-}
 
-fn avail_right(b: EvcBlock, map_scu: &[u32], first: Scu, down: Scu) -> u16
-    requires pic_h_in_bounds { units_of b.pic_w b.pic_h ≤ length map_scu.now }
-    requires allowed { Allowed b.pic_w b.x b.w × Allowed b.pic_h b.y b.h }
-    requires first_value { (first.0 ≡ scup b) × (down.0 ≡ scuh b * w_scu b) × (down.0 ≤ most_units) }
-    ensures { (result ≡ avail_right b map_scu.now) × (result ≤ 264) }
-{
-    let right = Scu(first.0 + evc_map::scu(b.w).0);
-    let ri = is_inter(map_scu, evc_def::has_right(b), right, Scu(0));
-    if !ri {
-        return 0;
+    // The unit above the block's first.
+    fn above(&self) -> Option<Scu>
+        ensures { let b = self.now.block in
+            result ≡ unit_of b (first_column b) (above b) }
+    {
+        if self.block.y == 0 {
+            return None;
+        }
+        Some(Scu(self.first.0 - evc_map::scu(self.block.pic_w).0))
     }
-    let lo_ri = is_inter(
-        map_scu,
-        evc_def::has_below(b),
-        Scu(right.0 + down.0),
-        Scu(0),
-    );
-    AVAIL_RI + flag(lo_ri, AVAIL_LO_RI)
-}
 
-fn avail_up(b: EvcBlock, map_scu: &[u32], first: Scu) -> u16
-    requires pic_h_in_bounds { units_of b.pic_w b.pic_h ≤ length map_scu.now }
-    requires allowed { Allowed b.pic_w b.x b.w × Allowed b.pic_h b.y b.h }
-    requires first_value { first.0 ≡ scup b }
-    ensures { (result ≡ avail_up b map_scu.now) × (result ≤ 609) }
-{
-    if b.y == 0 {
-        return 0;
+    // The unit below the block, in its first column.
+    #[tactic(auto, using(crate::proofs::Around::below_unit))]
+    fn below(&self) -> Option<Scu>
+        ensures { let b = self.now.block in
+            result ≡ unit_of b (first_column b) (below b) }
+    {
+        evc_def::has_below(self.block).then_some(Scu(self.first.0 + self.down.0))
     }
-    let above = Scu(first.0 - evc_map::scu(b.pic_w).0);
-    let scuw = evc_map::scu(b.w);
-    let up = is_not_intra(map_scu, above);
-    let ri_up = is_not_intra(map_scu, Scu(above.0 + scuw.0 - 1));
-    let up_le = is_inter(map_scu, b.x != 0, above, Scu(1));
-    let up_ri = is_inter(
-        map_scu,
-        evc_def::has_right(b),
-        Scu(above.0 + scuw.0),
-        Scu(0),
-    );
-    flag(up, AVAIL_UP)
-        + flag(ri_up, AVAIL_RI_UP)
-        + flag(up_le, AVAIL_UP_LE)
-        + flag(up_ri, AVAIL_UP_RI)
-}
 
-fn avail_inter(b: EvcBlock, map_scu: &[u32]) -> u16
-    requires pic_h_in_bounds { units_of b.pic_w b.pic_h ≤ length map_scu.now }
-    requires allowed { Allowed b.pic_w b.x b.w × Allowed b.pic_h b.y b.h }
-    ensures { result ≡ avail_inter b map_scu.now }
-{
-    let first = evc_map::unit_at(b.pic_w, b.x, b.y);
-    let down = block_rows(b);
-    let left = avail_left(b, map_scu, first, down);
-    let right = avail_right(b, map_scu, first, down);
-    left + avail_up(b, map_scu, first) + right
+    // The unit left of the block, in the row of one in its first column.
+    fn left_of(&self, unit: Scu) -> Option<Scu>
+        requires { in_first_column self.now.block unit }
+        ensures { let b = self.now.block in
+            (row : ℕ) → unit_of b (first_column b) row ≡ Some unit → result ≡ unit_of b (left_of b) row }
+    {
+        if self.block.x == 0 {
+            return None;
+        }
+        Some(Scu(unit.0 - 1))
+    }
+
+    fn right_of(&self, unit: Scu) -> Option<Scu>
+        requires { in_first_column self.now.block unit }
+        ensures { let b = self.now.block in
+            (row : ℕ) → unit_of b (first_column b) row ≡ Some unit → result ≡ unit_of b (right_of b) row }
+    {
+        evc_def::has_right(self.block).then_some(Scu(unit.0 + evc_map::scu(self.block.w).0))
+    }
+
+    #[tactic(auto, using(crate::proofs::Around::first_unit))]
+    fn left(&self) -> Option<Scu>
+        ensures { let b = self.now.block in
+            result ≡ unit_of b (left_of b) (first_row b) }
+    {
+        self.left_of(self.first)
+    }
+
+    #[tactic(auto, using(crate::proofs::Around::first_unit))]
+    fn right(&self) -> Option<Scu>
+        ensures { let b = self.now.block in
+            result ≡ unit_of b (right_of b) (first_row b) }
+    {
+        self.right_of(self.first)
+    }
+
+    fn lower_left(&self) -> Option<Scu>
+        ensures { let b = self.now.block in
+            result ≡ unit_of b (left_of b) (below b) }
+    {
+        self.left_of(self.below()?)
+    }
+
+    fn lower_right(&self) -> Option<Scu>
+        ensures { let b = self.now.block in
+            result ≡ unit_of b (right_of b) (below b) }
+    {
+        self.right_of(self.below()?)
+    }
+
+    // Whether a unit is available, coded and not intra. A unit outside the picture is not.
+    #[tactic(auto, using(crate::proofs::Around::no_inter, crate::proofs::Around::inter_is))]
+    fn is_inter(&self, unit: Option<Scu>) -> bool
+        requires { IfSome unit (λ scup. scup.0 < units_of self.now.block.pic_w self.now.block.pic_h) }
+        ensures { let n = self.now in
+            (column row : ℕ) → unit ≡ unit_of n.block column row → result ≡ is_inter_in (R.counts n.region) n.block n.map_scu.now column row }
+    {
+        let Some(scup) = unit else {
+            return false;
+        };
+        self.region.is_inter(evc_map::mcu_at(self.map_scu, scup))
+    }
+
+    #[tactic(auto, using(crate::proofs::Around::not_intra_is))]
+    fn is_not_intra(&self, scup: Scu) -> bool
+        requires { scup.0 < units_of self.now.block.pic_w self.now.block.pic_h }
+        ensures { let n = self.now in
+            (column row : ℕ) → Some scup ≡ unit_of n.block column row → result ≡ is_not_intra_in (R.counts n.region) n.block n.map_scu.now column row }
+    {
+        self.region
+            .is_not_intra(evc_map::mcu_at(self.map_scu, scup))
+    }
+
+    fn avail_left(&self) -> u16
+        ensures { let n = self.now in
+            (result ≡ avail_left_in (R.counts n.region) n.block n.map_scu.now) × (result ≤ 130) }
+    {
+        let le = self.is_inter(self.left());
+        if !le {
+            return 0;
+        }
+        let lo_le = self.is_inter(self.lower_left());
+        AVAIL_LE + flag(lo_le, AVAIL_LO_LE)
+    }
+
+    fn avail_right(&self) -> u16
+        ensures { let n = self.now in
+            (result ≡ avail_right_in (R.counts n.region) n.block n.map_scu.now) × (result ≤ 264) }
+    {
+        let ri = self.is_inter(self.right());
+        if !ri {
+            return 0;
+        }
+        let lo_ri = self.is_inter(self.lower_right());
+        AVAIL_RI + flag(lo_ri, AVAIL_LO_RI)
+    }
+
+    fn avail_up(&self) -> u16
+        ensures { let n = self.now in
+            (result ≡ avail_up_in (R.counts n.region) n.block n.map_scu.now) × (result ≤ 609) }
+    {
+        let Some(above) = self.above() else {
+            return 0;
+        };
+        let scuw = evc_map::scu(self.block.w);
+        let up = self.is_not_intra(above);
+        let ri_up = self.is_not_intra(Scu(above.0 + scuw.0 - 1));
+        let up_le = self.is_inter(self.left_of(above));
+        let up_ri = self.is_inter(self.right_of(above));
+        flag(up, AVAIL_UP)
+            + flag(ri_up, AVAIL_RI_UP)
+            + flag(up_le, AVAIL_UP_LE)
+            + flag(up_ri, AVAIL_UP_RI)
+    }
+
+    #[tactic(auto, unfolding(crate::specs::Flags::avail_of))]
+    fn avail_inter(&self) -> u16
+        ensures { let n = self.now in
+            result ≡ avail_of (R.counts n.region) n.block n.map_scu.now }
+    {
+        let left = self.avail_left();
+        let right = self.avail_right();
+        left + self.avail_up() + right
+    }
 }
 
 fn avail_code(b: EvcBlock, words: usize) -> u32
@@ -156,138 +287,11 @@ pub fn evc_get_avail_inter(block: EvcBlock, map_scu: &[u32]) -> EvcAvail
     }
     EvcAvail {
         code: 0,
-        avail: avail_inter(block, map_scu),
+        avail: Neighbours::new(block, map_scu, Picture).avail_inter(),
     }
 }
 
-// ---- document 02, W5: flags over a part of a picture
-
-// The part of a picture whose units count as available.
-#[derive(Clone, Copy)]
-enum Region {
-    Picture,
-    Slice(u32),
-}
-
-impl Region {
-    // A unit's word with a slice number of 0 if the unit is one of the region's, and of something else if not. The optimizer
-    // then makes one test of slice, coded and intra.
-    fn seen(self, mcu: MCU) -> MCU
-        requires { slice_in self ≤ max_slice_num }
-        ensures { Seen self mcu.0 result.0 }
-    {
-        match self {
-            Region::Picture => MCU(mcu.0 - mcu.GET_SN()),
-            Region::Slice(slice_num) => MCU(std::num::wrapping_sub_u32(mcu.0, slice_num)),
-        }
-    }
-}
-
-// Whether the unit that lies `back` before an index is available, coded and not intra. A unit outside the picture is not.
-fn is_inter_in(map_scu: &[u32], region: Region, has: bool, scup: Scu, back: Scu) -> bool
-    requires back_le_scup { has ≡ true → (back.0 ≤ scup.0) × (scup.0 - back.0 < length map_scu.now) }
-    requires region_bound { slice_in region ≤ max_slice_num }
-    ensures { let word = word_at map_scu.now (scup.0 - back.0) in
-        result ≡ (has && units_in region word && is_coded word && not (is_intra word)) }
-{
-    if !has {
-        return has;
-    }
-    let mcu = region.seen(evc_map::mcu_at(map_scu, Scu(scup.0 - back.0)));
-    (mcu.GET_SN() == 0) & mcu.IS_COD_NIF()
-}
-
-fn is_not_intra_in(map_scu: &[u32], region: Region, scup: Scu) -> bool
-    requires scup_in_bounds { scup.0 < length map_scu.now }
-    requires region_bound { slice_in region ≤ max_slice_num }
-    ensures { let word = word_at map_scu.now scup.0 in
-        result ≡ (units_in region word && not (is_intra word)) }
-{
-    let mcu = region.seen(evc_map::mcu_at(map_scu, scup));
-    (mcu.GET_SN() == 0) & !mcu.GET_IF()
-}
-
-// `first` is the index of the block's first unit, and `down` leads to the row below the block.
-fn avail_left_in(b: EvcBlock, map_scu: &[u32], region: Region, first: Scu, down: Scu) -> u16
-    requires pic_h_in_bounds { (units_of b.pic_w b.pic_h ≤ length map_scu.now) × (slice_in region ≤ max_slice_num) }
-    requires allowed { Allowed b.pic_w b.x b.w × Allowed b.pic_h b.y b.h }
-    requires first_value { (first.0 ≡ scup b) × (down.0 ≡ scuh b * w_scu b) × (down.0 ≤ most_units) }
-    ensures { (result ≡ avail_left_in (units_in region) b map_scu.now) × (result ≤ 130) }
-{
-    let le = is_inter_in(map_scu, region, b.x != 0, first, Scu(1));
-    if !le {
-        return 0;
-    }
-    let lo_le = is_inter_in(
-        map_scu,
-        region,
-        evc_def::has_below(b),
-        Scu(first.0 + down.0),
-        Scu(1),
-    );
-    AVAIL_LE + flag(lo_le, AVAIL_LO_LE)
-}
-
-fn avail_right_in(b: EvcBlock, map_scu: &[u32], region: Region, first: Scu, down: Scu) -> u16
-    requires pic_h_in_bounds { (units_of b.pic_w b.pic_h ≤ length map_scu.now) × (slice_in region ≤ max_slice_num) }
-    requires allowed { Allowed b.pic_w b.x b.w × Allowed b.pic_h b.y b.h }
-    requires first_value { (first.0 ≡ scup b) × (down.0 ≡ scuh b * w_scu b) × (down.0 ≤ most_units) }
-    ensures { (result ≡ avail_right_in (units_in region) b map_scu.now) × (result ≤ 264) }
-{
-    let right = Scu(first.0 + evc_map::scu(b.w).0);
-    let ri = is_inter_in(map_scu, region, evc_def::has_right(b), right, Scu(0));
-    if !ri {
-        return 0;
-    }
-    let lo_ri = is_inter_in(
-        map_scu,
-        region,
-        evc_def::has_below(b),
-        Scu(right.0 + down.0),
-        Scu(0),
-    );
-    AVAIL_RI + flag(lo_ri, AVAIL_LO_RI)
-}
-
-fn avail_up_in(b: EvcBlock, map_scu: &[u32], region: Region, first: Scu) -> u16
-    requires pic_h_in_bounds { (units_of b.pic_w b.pic_h ≤ length map_scu.now) × (slice_in region ≤ max_slice_num) }
-    requires allowed { Allowed b.pic_w b.x b.w × Allowed b.pic_h b.y b.h }
-    requires first_value { first.0 ≡ scup b }
-    ensures { (result ≡ avail_up_in (units_in region) b map_scu.now) × (result ≤ 609) }
-{
-    if b.y == 0 {
-        return 0;
-    }
-    let above = Scu(first.0 - evc_map::scu(b.pic_w).0);
-    let block_w = evc_map::scu(b.w);
-    let up = is_not_intra_in(map_scu, region, above);
-    let ri_up = is_not_intra_in(map_scu, region, Scu(above.0 + block_w.0 - 1));
-    let up_le = is_inter_in(map_scu, region, b.x != 0, above, Scu(1));
-    let up_ri = is_inter_in(
-        map_scu,
-        region,
-        evc_def::has_right(b),
-        Scu(above.0 + block_w.0),
-        Scu(0),
-    );
-    flag(up, AVAIL_UP)
-        + flag(ri_up, AVAIL_RI_UP)
-        + flag(up_le, AVAIL_UP_LE)
-        + flag(up_ri, AVAIL_UP_RI)
-}
-
-fn avail_inter_slice(b: EvcBlock, slice_num: u32, map_scu: &[u32]) -> u16
-    requires pic_h_in_bounds { (units_of b.pic_w b.pic_h ≤ length map_scu.now) × (slice_num ≤ max_slice_num) }
-    requires allowed { Allowed b.pic_w b.x b.w × Allowed b.pic_h b.y b.h }
-    ensures { result ≡ avail_of (of_slice slice_num) b map_scu.now }
-{
-    let region = Region::Slice(slice_num);
-    let first = evc_map::unit_at(b.pic_w, b.x, b.y);
-    let down = block_rows(b);
-    let left = avail_left_in(b, map_scu, region, first, down);
-    let right = avail_right_in(b, map_scu, region, first, down);
-    left + avail_up_in(b, map_scu, region, first) + right
-}
+// ---- document 02, W5: flags in a slice
 
 const MAX_SLICE_NUM: u32 = 127;
 
@@ -314,6 +318,6 @@ pub fn evc_get_avail_inter_slice(block: EvcBlock, slice_num: u32, map_scu: &[u32
     }
     EvcAvail {
         code: 0,
-        avail: avail_inter_slice(block, slice_num, map_scu),
+        avail: Neighbours::new(block, map_scu, Slice { slice_num }).avail_inter(),
     }
 }

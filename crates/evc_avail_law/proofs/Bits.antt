@@ -8,8 +8,7 @@ use lib.Dec.{eqb}
 use Rattle.evc_def.specs.Tables.{is_bit}
 use Rattle.evc_def.specs.declared.EvcBlock.{EvcBlock}
 use Rattle.evc_avail.specs.Around.{left_of, first_column, last_column, right_of, above, first_row, below}
-use Rattle.evc_avail.specs.Flags.{flag}
-use Rattle.evc_avail.specs.Regions.{is_inter_in, is_not_intra_in, avail_left_in, avail_right_in, avail_up_in, avail_of}
+use Rattle.evc_avail.specs.Flags.{flag, is_inter_in, is_not_intra_in, avail_left_in, avail_right_in, avail_up_in, avail_of}
 use Rattle.evc_avail.proofs.Laws.{one, one_le, weight}
 
 is_set : (set : Bool) (m : ℕ) → m ≡ one set → eqb m 1 ≡ set

@@ -1,11 +1,11 @@
 -- What candidates are taken from with the flags of a slice. Assumes nothing.
-use mathlib.Core.Bool.{Bool, true, false, cond, not, ◌&&◌, ◌||◌}
+use mathlib.Core.Bool.{Bool, true, false, cond, ◌&&◌, ◌||◌}
 use mathlib.Core.List.{List}
-use mathlib.Core.Logic.{⊎_elim, ◌⊎◌, inl, inr}
 use mathlib.Core.Path.{◌≡◌, refl, sym, ap, subst, ◌∙◌}
-use Prim.Native.Nat.{ℕ, ◌+◌, ◌-◌, ◌<◌}
+use Prim.Native.Nat.{ℕ, suc, ◌+◌, ◌-◌, ◌*◌, ◌<◌, ◌≤◌}
+use Rattle.std.proofs.Common.{suc-mul}
 use native.Mathlib.Omega.{arith}
-use borrow.Author.Tests.{eqb-true, ne_eqb}
+use borrow.Author.Tests.{eqb-true}
 use lib.Dec.{T, eqb}
 use lib.IntN.{ℤ}
 use lib.ListN.{length}
@@ -14,12 +14,11 @@ use Rattle.evc_def.specs.Codes.{first_of}
 use Rattle.evc_def.specs.Tables.{is_bit}
 use Rattle.evc_def.specs.declared.EvcBlock.{EvcBlock}
 use Rattle.evc_def.proofs.Codes.{both_accepted}
-use Rattle.evc_map.specs.Maps.{units_of, word_at, mv_at, w_scu, scup, scuw}
-use Rattle.evc_avail.specs.Around.{left_of, first_column, right_of, above, first_row, has_unit}
-use Rattle.evc_avail.specs.Flags.{avail_checks}
-use Rattle.evc_avail.specs.Regions.{is_inter_in, is_not_intra_in, avail_of}
+use Rattle.evc_map.specs.Maps.{units_of, word_at, mv_at, w_scu, y_scu, scup, scuw}
+use Rattle.evc_avail.specs.Around.{left_of, first_column, right_of, above, first_row, has_unit, index_of, word_of}
+use Rattle.evc_avail.specs.Flags.{is_inter_in, is_not_intra_in, avail_of, avail_checks}
 use Rattle.evc_avail.specs.Slices.{of_slice, slice_checks, get_avail_inter_slice}
-use Rattle.evc_avail.proofs.Around.{Unit, inter_in_is, not_intra_in_is, positive, no_row, left_unit, up_unit, up_right_unit}
+use Rattle.evc_avail.proofs.Around.{InPicture, in_picture, has_not, unit_below, first_row_lem, no_row}
 use Rattle.evc_avail.proofs.Answers.{covers}
 use Rattle.evc_motion.specs.Candidates.{flag_outside, candidates, get_motion}
 use Rattle.evc_motion.specs.declared.EvcCandidates.{EvcCandidates}
@@ -40,61 +39,65 @@ module _ (counts : ℕ → Bool) (b : EvcBlock) (words : List ℕ) where
 
   -- ---- a unit that is found counts
 
-  found_inter : {column row index : ℕ} (t : Bool) → Unit b column row index t → is_inter_in counts b words column row ≡ true → (index < units_of b.pic_w b.pic_h) × (counts (word_at words index) ≡ true)
-  found_inter {index = index} t u e =
-      let f = first _ _ _ _ (inter_in_is counts b words t u index _ refl refl ∙ e) in
-      (u.index_low f.0, f.1)
-    where
-      first : (r s t u : Bool) → (r && s && t && u) ≡ true → (r ≡ true) × (s ≡ true)
-      first true true t u h = (refl, refl)
-      first true false t u h = (refl, h)
-      first false s t u h = (h, absurd (subst T (sym h) tt))
+  abbrev Found : ℕ → Type 0
+  Found index = (index < units_of b.pic_w b.pic_h) × (counts (word_at words index) ≡ true)
 
-  found_not_intra : {column row index : ℕ} → Unit b column row index true → is_not_intra_in counts b words column row ≡ true → (index < units_of b.pic_w b.pic_h) × (counts (word_at words index) ≡ true)
-  found_not_intra {index = index} u e = (u.index_low refl, first _ _ (not_intra_in_is counts b words u index _ refl refl ∙ e))
+  found : (column row index : ℕ) → (has_unit b column row && counts (word_of b words column row)) ≡ true → (InPicture b column row → index_of b column row ≡ index) → Found index
+  found column row index e f =
+      let h = both _ _ e in
+      subst Found (f (in_picture b column row h.0)) (unit_below b column row h.0, h.1)
     where
-      first : (s t : Bool) → (s && t) ≡ true → s ≡ true
-      first true t h = refl
-      first false t h = h
+      both : (s t : Bool) → (s && t) ≡ true → (s ≡ true) × (t ≡ true)
+      both true t h = (refl, h)
+      both false t h = absurd (subst T (sym h) tt)
 
-module _ (counts : ℕ → Bool) (b : EvcBlock) (words : List ℕ) (p : Allowed b.pic_w b.x b.w) (q : Allowed b.pic_h b.y b.h) where
+  found_inter : (column row index : ℕ) → is_inter_in counts b words column row ≡ true → (InPicture b column row → index_of b column row ≡ index) → Found index
+  unfolding is_inter_in
+  found_inter column row index e = found column row index (first _ _ _ e)
+    where
+      first : (r s t : Bool) → (r && s && t) ≡ true → r ≡ true
+      first true s t h = refl
+      first false s t h = h
+
+  found_not_intra : (column row index : ℕ) → is_not_intra_in counts b words column row ≡ true → (InPicture b column row → index_of b column row ≡ index) → Found index
+  unfolding is_not_intra_in
+  found_not_intra column row index e = found column row index (first _ _ e)
+    where
+      first : (r s : Bool) → (r && s) ≡ true → r ≡ true
+      first true s h = refl
+      first false s h = h
+
   -- ---- the three units that candidates are taken from
 
-  left_found : is_inter_in counts b words (left_of b) (first_row b) ≡ true → (scup b - 1 < units_of b.pic_w b.pic_h) × (counts (word_at words (scup b - 1)) ≡ true)
-  left_found e = found_inter counts b words _ (left_unit b p q) e
+  above_row : 1 ≤ above b → (above b - 1) * w_scu b + w_scu b ≡ y_scu b * w_scu b
+  above_row l = let e : suc (y_scu b - 1) ≡ y_scu b = omega arith in sym (suc-mul (y_scu b - 1) (w_scu b)) ∙ ap (λ (n : ℕ). n * w_scu b) e
 
-  -- there is none above a block of the first row
-  below_first : (is_not_intra_in counts b words (first_column b) (above b) ≡ true) ⊎ (is_inter_in counts b words (right_of b) (above b) ≡ true) → 0 < b.y
-  below_first h = positive b.y (λ z. ⊎_elim
-      (λ e. subst T (sym e ∙ no_not_intra counts b words (first_column b) (above b) (no_row b p q (first_column b) z)) tt)
-      (λ e. subst T (sym e ∙ no_inter counts b words (right_of b) (above b) (no_row b p q (right_of b) z)) tt) h)
+  left_found : is_inter_in counts b words (left_of b) (first_row b) ≡ true → Found (scup b - 1)
+  left_found e = found_inter _ _ _ e (λ i. let l = i.left in omega (arith, first_row_lem b))
 
-  up_found : is_not_intra_in counts b words (first_column b) (above b) ≡ true → (scup b - w_scu b < units_of b.pic_w b.pic_h) × (counts (word_at words (scup b - w_scu b)) ≡ true)
-  up_found e = found_not_intra counts b words (up_unit b p q (below_first (inl e))) e
+  up_found : is_not_intra_in counts b words (first_column b) (above b) ≡ true → Found (scup b - w_scu b)
+  up_found e = found_not_intra _ _ _ e (λ i. omega (arith, above_row i.top))
 
-  up_right_found : is_inter_in counts b words (right_of b) (above b) ≡ true → (scup b - w_scu b + scuw b < units_of b.pic_w b.pic_h) × (counts (word_at words (scup b - w_scu b + scuw b)) ≡ true)
-  up_right_found e = found_inter counts b words _ (up_right_unit b p q (below_first (inr e))) e
+  up_right_found : is_inter_in counts b words (right_of b) (above b) ≡ true → Found (scup b - w_scu b + scuw b)
+  up_right_found e = found_inter _ _ _ e (λ i. omega (arith, above_row i.top))
 
+module _ (counts : ℕ → Bool) (b : EvcBlock) (words : List ℕ) (p : Allowed b.pic_w b.x b.w) (q : Allowed b.pic_h b.y b.h) where
   -- ---- none of them lies outside
 
   left_inside : eqb b.x 0 ≡ true → is_inter_in counts b words (left_of b) (first_row b) ≡ false
-  left_inside z = no_inter counts b words (left_of b) (first_row b) ((left_unit b p q).exists ∙ ap not z)
+  left_inside z = no_inter counts b words (left_of b) (first_row b) (has_not b (left_of b) (first_row b) (λ i. let l = i.left in let e = eqb-true b.x 0 z in omega arith))
 
   up_inside : eqb b.y 0 ≡ true → is_not_intra_in counts b words (first_column b) (above b) ≡ false
   up_inside z = no_not_intra counts b words (first_column b) (above b) (no_row b p q (first_column b) (eqb-true b.y 0 z))
 
   up_right_inside : (eqb b.y 0 || eqb (b.x + b.w) b.pic_w) ≡ true → is_inter_in counts b words (right_of b) (above b) ≡ false
-  up_right_inside z = by_test (is_inter_in counts b words (right_of b) (above b)) refl
+  up_right_inside z = no_inter counts b words (right_of b) (above b) (has_not b (right_of b) (above b) (λ i. either _ _ z
+      (λ y. let l = i.top in let e = eqb-true b.y 0 y in omega arith)
+      (λ x. let l = i.right in let e = eqb-true (b.x + b.w) b.pic_w x in omega arith)))
     where
-      last : (s t : Bool) → (s || t) ≡ true → s ≡ false → t ≡ true
-      last true t h e = absurd (subst T e tt)
-      last false t h e = h
-
-      by_test : (t : Bool) → is_inter_in counts b words (right_of b) (above b) ≡ t → is_inter_in counts b words (right_of b) (above b) ≡ false
-      by_test false e = e
-      by_test true e =
-          let l = below_first (inr e) in
-          no_inter counts b words (right_of b) (above b) ((up_right_unit b p q l).exists ∙ ap not (last _ _ z (ne_eqb b.y 0 (λ y. omega arith))))
+      either : (s t : Bool) → (s || t) ≡ true → (s ≡ true → ⊥) → (t ≡ true → ⊥) → ⊥
+      either true t h f g = f refl
+      either false t h f g = g h
 
   none_outside : flag_outside b (avail_of counts b words) ≡ false
   unfolding flag_outside
@@ -151,12 +154,11 @@ module _ (b : EvcBlock) (slice : ℕ) (words : List ℕ) (lidx : ℕ) (mvs mvs' 
   within : ((unit : ℕ) → unit < units_of b.pic_w b.pic_h → of_slice slice (word_at words unit) ≡ true → mv_at mvs unit lidx ≡ mv_at mvs' unit lidx) → Agree (get_avail_inter_slice b slice words).avail
   within h =
       flags_by Agree b slice words no_flag (λ e.
-      let k = accepted_block b slice (length words) e in
       let f = flags_read (of_slice slice) b words in
       record {
-        at_left = λ s. let u = left_found (of_slice slice) b words k.0 k.1 (sym f.left_bit ∙ s) in h _ u.0 u.1;
-        at_up = λ s. let u = up_found (of_slice slice) b words k.0 k.1 (sym f.up_bit ∙ s) in h _ u.0 u.1;
-        at_up_right = λ s. let u = up_right_found (of_slice slice) b words k.0 k.1 (sym f.up_right_bit ∙ s) in h _ u.0 u.1;
+        at_left = λ s. let u = left_found (of_slice slice) b words (sym f.left_bit ∙ s) in h _ u.0 u.1;
+        at_up = λ s. let u = up_found (of_slice slice) b words (sym f.up_bit ∙ s) in h _ u.0 u.1;
+        at_up_right = λ s. let u = up_right_found (of_slice slice) b words (sym f.up_right_bit ∙ s) in h _ u.0 u.1;
       })
 
 same_motion_lem : (b : EvcBlock) (lidx avail : ℕ) (mvs mvs' : List ℤ) (has_col : Bool) (col : List ℤ) (old : EvcCandidates) → length mvs ≡ length mvs' → candidates b lidx avail mvs has_col col old ≡ candidates b lidx avail mvs' has_col col old → get_motion b lidx avail mvs has_col col old ≡ get_motion b lidx avail mvs' has_col col old

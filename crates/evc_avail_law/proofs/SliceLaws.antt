@@ -14,18 +14,16 @@ use Rattle.evc_def.specs.declared.EvcBlock.{EvcBlock}
 use Rattle.evc_def.proofs.Codes.{stops, goes_on, passed, none}
 use Rattle.evc_map.specs.Maps.{word_at}
 use Rattle.evc_avail.specs.Around.{index_of}
-use Rattle.evc_avail.specs.Flags.{is_inter, is_not_intra, avail_left, avail_right, avail_up, avail_inter, avail_checks, get_avail_inter}
-use Rattle.evc_avail.specs.Regions.{of_picture, is_inter_in, is_not_intra_in, avail_left_in, avail_right_in, avail_up_in, avail_of, answered}
+use Rattle.evc_avail.specs.Flags.{of_picture, is_inter_in, is_not_intra_in, avail_left_in, avail_right_in, avail_up_in, avail_of, answered, avail_checks, get_avail_inter}
 use Rattle.evc_avail.specs.Slices.{of_slice, max_slice_num, slice_checks, get_avail_inter_slice}
 use Rattle.evc_avail_law.specs.SliceLaws.{column_of, row_of, word_beside, TwoSlices, OneSlice, OtherSlices, intra_outside, AsIntra, Unread, SliceLaws}
 use Rattle.evc_avail.proofs.Around.{unit_below}
 use Rattle.evc_avail.proofs.Answers.{covers}
-use Rattle.evc_avail.proofs.RegionFlags.{picture_flags}
 use Rattle.evc_avail_law.proofs.Candidates.{inside, within_slice}
 use Rattle.evc_avail_law.proofs.Units.{Alike, same_flags}
 
 two_slices_lem : TwoSlices
-unfolding get_avail_inter_slice get_avail_inter avail_inter avail_left avail_right avail_up is_inter is_not_intra avail_of avail_left_in avail_right_in avail_up_in is_inter_in is_not_intra_in first_of bad_picture bad_block
+unfolding get_avail_inter_slice get_avail_inter avail_of avail_left_in avail_right_in avail_up_in is_inter_in is_not_intra_in first_of bad_picture bad_block
 two_slices_lem = (refl, refl, refl, refl)
 
 -- ---- numbers
@@ -54,7 +52,7 @@ one_slice : OneSlice
 unfolding get_avail_inter_slice get_avail_inter
 one_slice b slice words l a =
     ap (λ (code : ℕ). answered code (avail_of (of_slice slice) b words)) (old_code b slice (length words) l)
-    ∙ same_answer _ _ _ (λ e. same_flags (of_slice slice) of_picture b words words (λ k t. record { inter = rw (a k t); not_intra = rw (a k t) }) ∙ sym (picture_flags b words))
+    ∙ same_answer _ _ _ (λ e. same_flags (of_slice slice) of_picture b words words (λ k t. record { inter = rw (a k t); not_intra = rw (a k t) }))
 
 no_unit : (t : Bool) → (t && false) ≡ false
 no_unit true = refl
@@ -99,7 +97,7 @@ as_intra b slice words l =
     let k = (covers b (length words) (ap (λ (n : ℕ). first_of (avail_checks b n)) (sym long) ∙ e)).0 in
     same_flags (of_slice slice) of_picture b words words' (λ n t.
     let i = unit_below b (column_of b n) (row_of b n) t in
-    rw (map_at (intra_outside slice) words (index_of b (column_of b n) (row_of b n)) (omega arith)) (intra_alike slice (word_beside b words n))) ∙ sym (picture_flags b words'))
+    rw (map_at (intra_outside slice) words (index_of b (column_of b n) (row_of b n)) (omega arith)) (intra_alike slice (word_beside b words n))))
 
 -- ---- what is not read
 

@@ -6,7 +6,7 @@ use Prim.Native.Nat.{ℕ}
 use Rattle.evc_def.specs.Tables.{is_coded, is_intra}
 use Rattle.evc_def.specs.declared.EvcBlock.{EvcBlock}
 use Rattle.evc_avail.specs.Around.{has_unit, word_of}
-use Rattle.evc_avail.specs.Regions.{is_inter_in, is_not_intra_in, avail_left_in, avail_right_in, avail_up_in, avail_of}
+use Rattle.evc_avail.specs.Flags.{is_inter_in, is_not_intra_in, avail_left_in, avail_right_in, avail_up_in, avail_of}
 use Rattle.evc_avail_law.specs.SliceLaws.{Neighbour, left, lower_left, right, lower_right, up, right_up, up_left, up_right, column_of, row_of, is_there, word_beside}
 
 -- both tests of a word agree with those of another
