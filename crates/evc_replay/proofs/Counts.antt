@@ -55,5 +55,5 @@ module _ (e : Source) (s : List ℕ) (at : ℕ) (c : MovedCounts) where
   counted_end h = sym (ap (λ (d : MovedCounts). c plus d) (ap (λ (l : List (List ℕ)). counted_over e (finished e l)) (no_more s at h)) ∙ plus_nothing c)
 
 -- the counts that a default has
-pub none_is : (c : MovedCounts) → (c.across_low ≡ 0) × (c.across_high ≡ 0) × (c.down_low ≡ 0) × (c.down_high ≡ 0) → c ≡ nothing_counted
-none_is c e = rw (e.0, e.1, e.2, e.3)
+pub none_is : (c : MovedCounts) → (c.across_low ≡ 0) × ((c.across_high ≡ 0) × ((c.down_low ≡ 0) × (c.down_high ≡ 0))) → c ≡ nothing_counted
+none_is c e = rw (e.0, e.1.0, e.1.1.0, e.1.1.1)

@@ -2,7 +2,7 @@
 use mathlib.Core.Bool.{false}
 use mathlib.Core.Path.{◌≡◌, sym, subst, ◌∙◌}
 use Rattle.evc_trace.specs.declared.TraceHeader.{TraceHeader}
-use Rattle.evc_record.specs.Record.{Planes, planes, picture_short}
+use Rattle.evc_record.specs.Record.{planes, picture_short}
 use Rattle.evc_def.proofs.Refusals.{not_0}
 use Rattle.evc_map.specs.Maps.{is_present, numbers_of}
 use Rattle.evc_replay.proofs.Counts.{none_is}
@@ -22,7 +22,7 @@ returns-in-Err c =
     let n = c.answer.ensures in
     record {
       v_after = with_target _ _ _ n.0 ∙ not_begun a.trace.now p q has col t _ e (not_0 _);
-      result_value = n.1 ∙ none_is _ c.default.ensures ∙ nothing_counted_lem a.trace.now p q has col t _ e (not_0 _);
+      result_value = n.1 ∙ none_is c.default.result c.default.ensures ∙ nothing_counted_lem a.trace.now p q has col t _ e (not_0 _);
     }
 
 pub replay_records-requires : goal.replay_records-requires
