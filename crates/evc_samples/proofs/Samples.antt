@@ -3,16 +3,22 @@
 use Prim.Native.Nat.{ℕ, zero, suc, ◌+◌, ◌*◌, ◌-◌, ◌<◌, ◌≤◌}
 use mathlib.Core.Bool.{Bool, true, false, ◌||◌}
 use mathlib.Core.Path.{◌≡◌, refl, sym, ap, ap₂, ◌∙◌}
-use mathlib.Core.List.{List}
+use mathlib.Core.List.{List, [], ◌∷◌}
 use mathlib.Core.Logic.{⊎_elim}
 use native.Mathlib.Omega.{arith}
 use native.Mathlib.Numerals.{add-one}
-use native.Mathlib.Nat.{zero-add, eq-or-lt_of_le, le_of_suc-le-suc, not-suc-le-zero}
+use native.Mathlib.Nat.{eq-or-lt_of_le, le_of_suc-le-suc, not-suc-le-zero}
 use lib.Bits.{bit_or, bit_and, or_lt, or_add_and, and_le_l, and_le_r}
 use lib.Dec.{ltb}
-use lib.ListN.{get_or, drop}
+use lib.ListN.{length, get_or, take, drop, replicate}
 use lib.Seq.{get_or-drop}
 use borrow.Author.Tests.{ltb-true, ltb-false, lt-ltb, le-ltb}
+use Rattle.std.specs.List.{list_any, fold}
+use Rattle.std.specs.Simd.Lanes.{fold_l, zip2}
+use Rattle.std.proofs.Math.Bool.{or_assoc, or-false}
+use Rattle.std.proofs.lemmas.List.{length-take, length-drop}
+use Rattle.std.proofs.lemmas.List.Folds.{list_any_more}
+use Rattle.std.proofs.lemmas.Simd.{length-zip2}
 use Rattle.evc_int.proofs.Bools.{none_true}
 use Rattle.evc_samples.specs.Samples.{too_large, row_exceeds, exceeds}
 
@@ -30,6 +36,67 @@ or_too_large x y = go (ltb 1023 x) (ltb 1023 y) refl refl
         let h = ltb-false 1023 x p in
         let k = ltb-false 1023 y q in
         le-ltb 1023 (bit_or x y) (let l : bit_or x y < 1024 = or_lt 10 x y (omega arith) (omega arith) in omega arith)
+
+zero_fits : too_large 0 ≡ false
+unfolding too_large
+zero_fits = refl
+
+-- ---- what an OR gathers of a list: as two vectors give one, as a vector or a row gives a number
+
+any_or : (o l : List ℕ) → length o ≡ length l → list_any too_large (zip2 bit_or o l) ≡ list_any too_large o || list_any too_large l
+any_or [] [] e = refl
+any_or [] (y ∷ l) e = absurd (omega arith)
+any_or (x ∷ o) [] e = absurd (omega arith)
+any_or (x ∷ o) (y ∷ l) e =
+    ap₂ (λ (a b : Bool). a || b) (or_too_large x y) (any_or o l (omega arith)) ∙ mixed (too_large x) (too_large y) (list_any too_large o) (list_any too_large l)
+  where
+    mixed : (a b c d : Bool) → (a || b) || (c || d) ≡ (a || c) || (b || d)
+    mixed true b c d = refl
+    mixed false true true d = refl
+    mixed false true false d = refl
+    mixed false false c d = refl
+
+any_fold : (o : ℕ) (l : List ℕ) → too_large (fold bit_or o l) ≡ too_large o || list_any too_large l
+any_fold o [] = sym (or-false (too_large o))
+any_fold o (x ∷ l) =
+    any_fold (bit_or o x) l ∙ ap (λ (a : Bool). a || list_any too_large l) (or_too_large o x) ∙ or_assoc (too_large o) (too_large x) (list_any too_large l)
+
+pub row_or : (l : List ℕ) → too_large (fold bit_or 0 l) ≡ list_any too_large l
+row_or l = any_fold 0 l ∙ ap (λ (a : Bool). a || list_any too_large l) zero_fits
+
+pub lanes_or : (l : List ℕ) → too_large (fold_l bit_or 0 l) ≡ list_any too_large l
+lanes_or l = ap too_large (same_fold 0 l) ∙ row_or l
+  where
+    same_fold : (o : ℕ) (l : List ℕ) → fold_l bit_or o l ≡ fold bit_or o l
+    same_fold o [] = refl
+    same_fold o (x ∷ l) = same_fold (bit_or o x) l
+
+pub lanes_none : (n : ℕ) → list_any too_large (replicate n 0) ≡ too_large 0
+lanes_none zero = sym zero_fits
+lanes_none (suc n) = ap (λ (a : Bool). a || list_any too_large (replicate n 0)) zero_fits ∙ lanes_none n
+
+-- n samples that are taken out of a plane
+pub taken : (s : List ℕ) (at n : ℕ) → at + n ≤ length s → list_any too_large (take n (drop at s)) ≡ row_exceeds s at n
+unfolding row_exceeds
+taken s at zero a = refl
+taken s at (suc n) a =
+    let lt : n < length (drop at s) = omega (arith, length-drop at s) in
+    (rw add-one at (list_any_more too_large (drop at s) n 0 lt)) ∙ ap₂ (λ (a b : Bool). a || b) (taken s at n (omega arith)) (ap too_large (get_or-drop at s n 0))
+
+-- the lanes, n of them, after a row
+pub lanes_more : (s o : List ℕ) (i j n : ℕ) → length o ≡ n → i + n ≤ length s → j + n ≤ length s → let r = zip2 bit_or (zip2 bit_or o (take n (drop i s))) (take n (drop j s)) in (length r ≡ n) × (list_any too_large r ≡ list_any too_large o || (row_exceeds s i n || row_exceeds s j n))
+lanes_more s o i j n e a b =
+    let x = take n (drop i s) in
+    let y = take n (drop j s) in
+    let p : length o ≡ length x = omega (arith, e, long i a) in
+    let q : length (zip2 bit_or o x) ≡ length y = omega (arith, e, length-zip2 bit_or o x p, long j b) in (
+      length-zip2 bit_or (zip2 bit_or o x) y q ∙ length-zip2 bit_or o x p ∙ e,
+      any_or (zip2 bit_or o x) y q ∙ ap₂ (λ (a b : Bool). a || b) (any_or o x p ∙ ap (λ (a : Bool). list_any too_large o || a) (taken s i n a)) (taken s j n b)
+          ∙ or_assoc (list_any too_large o) (row_exceeds s i n) (row_exceeds s j n),
+    )
+  where
+    long : (k : ℕ) → k + n ≤ length s → length (take n (drop k s)) ≡ n
+    long k h = omega (arith, length-take n (drop k s), length-drop k s)
 
 -- ---- what the answer says of each sample
 
@@ -67,30 +134,12 @@ none_exceeds s at stride n (suc h) q =
 
 -- ---- the walk: its beginning, and one sample of both ends or one row more
 
-pub zero_fits : too_large 0 ≡ false
-unfolding too_large
-zero_fits = refl
-
 same_answer : (a b : Bool) → (a ≡ false → b ≡ false) → (b ≡ false → a ≡ false) → a ≡ b
 same_answer true true f g = refl
 same_answer true false f g = g refl
 same_answer false b f g = sym (f refl)
 
 module _ (s : List ℕ) (at : ℕ) where
-  pub row_none : too_large 0 ≡ row_exceeds s at 0
-  unfolding row_exceeds
-  row_none = zero_fits
-
-  pub row_more : (x o r : ℕ) → too_large o ≡ row_exceeds s at x → too_large r ≡ too_large o || too_large (get_or s (at + x) 0) → too_large r ≡ row_exceeds s at (x + 1)
-  unfolding row_exceeds
-  row_more x o r h e = rw add-one (e ∙ ap (λ (b : Bool). b || too_large (get_or s (at + x) 0)) h)
-
-  -- a row that is handed on as what lies in the plane from it on
-  pub row_from : (n : ℕ) → row_exceeds (drop at s) 0 n ≡ row_exceeds s at n
-  unfolding row_exceeds
-  row_from zero = refl
-  row_from (suc n) = ap₂ (λ (a b : Bool). a || b) (row_from n) (ap too_large (ap (λ (i : ℕ). get_or (drop at s) i 0) (zero-add n) ∙ get_or-drop at s n 0))
-
   -- the first j and the last k are the whole row
   pub ends_all : (n j k : ℕ) → j ≤ n → k ≤ n → n ≤ j + k → row_exceeds s at j || row_exceeds s (at + n - k) k ≡ row_exceeds s at n
   ends_all n j k lj lk m = same_answer (row_exceeds s at j || row_exceeds s (at + n - k) k) (row_exceeds s at n) forth back

@@ -1,13 +1,11 @@
--- `evc_samples::or_row` meets its contract. The invariant: o stands for the first x samples. Assumes nothing.
-use native.Mathlib.Nat.{zero-add}
-use native.Mathlib.Omega.{arith}
-use Rattle.evc_samples.proofs.Samples.{row_none, row_more}
+-- `evc_samples::or_row` meets its contract. Assumes nothing.
+use mathlib.Core.Path.{◌≡◌, ap, ◌∙◌}
+use lib.Bits.{bit_or}
+use borrow.Author.Rules.{rules}
+use Rattle.std.specs.List.{fold}
+use Rattle.evc_samples.specs.Samples.{too_large}
+use Rattle.evc_samples.proofs.Samples.{row_or}
 use Rattle.evc_samples.proofs.or_row.Goals as goal
 
-pub loop-x-init : goal.loop-x-init
-loop-x-init c = (omega arith, row_none _ _)
-
-pub loop-x-preserved : goal.loop-x-preserved
-loop-x-preserved c =
-    let i = c.loop-x in
-    (omega arith, row_more _ _ _ _ _ i.invariant.1 (rw (zero-add i.x) c.gather-o.ensures))
+pub returns : goal.returns
+returns c = let e : c.fold.result ≡ fold bit_or 0 c.args.row.now = search rules in ap too_large e ∙ row_or c.args.row.now
