@@ -15,7 +15,7 @@ use lib.Seq.{get_or-drop}
 use borrow.Author.Tests.{ltb-true, ltb-false, lt-ltb, le-ltb}
 use Rattle.std.specs.List.{list_any, fold}
 use Rattle.std.specs.Simd.Lanes.{fold_l, zip2}
-use Rattle.std.proofs.Math.Bool.{or_assoc, or-false}
+use Rattle.std.proofs.Math.Bool.{or_comm, or-false}
 use Rattle.std.proofs.lemmas.List.{length-take, length-drop}
 use Rattle.std.proofs.lemmas.List.Folds.{list_any_more}
 use Rattle.std.proofs.lemmas.Simd.{length-zip2}
@@ -43,23 +43,15 @@ zero_fits = refl
 
 -- ---- what an OR gathers of a list: as two vectors give one, as a vector or a row gives a number
 
-any_or : (o l : List ℕ) → length o ≡ length l → list_any too_large (zip2 bit_or o l) ≡ list_any too_large o || list_any too_large l
+pub any_or : (o l : List ℕ) → length o ≡ length l → list_any too_large (zip2 bit_or o l) ≡ list_any too_large o || list_any too_large l
 any_or [] [] e = refl
 any_or [] (y ∷ l) e = absurd (omega arith)
 any_or (x ∷ o) [] e = absurd (omega arith)
-any_or (x ∷ o) (y ∷ l) e =
-    ap₂ (λ (a b : Bool). a || b) (or_too_large x y) (any_or o l (omega arith)) ∙ mixed (too_large x) (too_large y) (list_any too_large o) (list_any too_large l)
-  where
-    mixed : (a b c d : Bool) → (a || b) || (c || d) ≡ (a || c) || (b || d)
-    mixed true b c d = refl
-    mixed false true true d = refl
-    mixed false true false d = refl
-    mixed false false c d = refl
+any_or (x ∷ o) (y ∷ l) e = let h = any_or o l (omega arith) in grind (arith, or_too_large)
 
 any_fold : (o : ℕ) (l : List ℕ) → too_large (fold bit_or o l) ≡ too_large o || list_any too_large l
 any_fold o [] = sym (or-false (too_large o))
-any_fold o (x ∷ l) =
-    any_fold (bit_or o x) l ∙ ap (λ (a : Bool). a || list_any too_large l) (or_too_large o x) ∙ or_assoc (too_large o) (too_large x) (list_any too_large l)
+any_fold o (x ∷ l) = let h = any_fold (bit_or o x) l in grind (arith, or_too_large)
 
 pub row_or : (l : List ℕ) → too_large (fold bit_or 0 l) ≡ list_any too_large l
 row_or l = any_fold 0 l ∙ ap (λ (a : Bool). a || list_any too_large l) zero_fits
@@ -86,17 +78,7 @@ taken s at (suc n) a =
 -- the lanes, n of them, after a row
 pub lanes_more : (s o : List ℕ) (i j n : ℕ) → length o ≡ n → i + n ≤ length s → j + n ≤ length s → let r = zip2 bit_or (zip2 bit_or o (take n (drop i s))) (take n (drop j s)) in (length r ≡ n) × (list_any too_large r ≡ list_any too_large o || (row_exceeds s i n || row_exceeds s j n))
 lanes_more s o i j n e a b =
-    let x = take n (drop i s) in
-    let y = take n (drop j s) in
-    let p : length o ≡ length x = omega (arith, e, long i a) in
-    let q : length (zip2 bit_or o x) ≡ length y = omega (arith, e, length-zip2 bit_or o x p, long j b) in (
-      length-zip2 bit_or (zip2 bit_or o x) y q ∙ length-zip2 bit_or o x p ∙ e,
-      any_or (zip2 bit_or o x) y q ∙ ap₂ (λ (a b : Bool). a || b) (any_or o x p ∙ ap (λ (a : Bool). list_any too_large o || a) (taken s i n a)) (taken s j n b)
-          ∙ or_assoc (list_any too_large o) (row_exceeds s i n) (row_exceeds s j n),
-    )
-  where
-    long : (k : ℕ) → k + n ≤ length s → length (take n (drop k s)) ≡ n
-    long k h = omega (arith, length-take n (drop k s), length-drop k s)
+    (grind (arith, length-zip2, length-take, length-drop), grind (arith, any_or, taken, length-zip2, length-take, length-drop))
 
 -- ---- what the answer says of each sample
 
@@ -168,10 +150,9 @@ module _ (s : List ℕ) (at : ℕ) where
     unfolding exceeds
     rows_none = zero_fits
 
-    -- one row more, for whatever number or lanes p stands for
-    pub rows_more : (y : ℕ) (p q r : Bool) → p ≡ exceeds s at stride n y → q ≡ row_exceeds s (at + y * stride) n → r ≡ p || q → r ≡ exceeds s at stride n (y + 1)
+    pub rows_more : (y : ℕ) → exceeds s at stride n (y + 1) ≡ exceeds s at stride n y || row_exceeds s (at + y * stride) n
     unfolding exceeds
-    rows_more y p q r h i e = rw add-one (e ∙ ap₂ (λ (a b : Bool). a || b) h i)
+    rows_more y = rw add-one
 
   -- the same of the columns of h rows: the first j and the last k are all of them
   module _ (stride h : ℕ) where
@@ -198,28 +179,11 @@ module _ (s : List ℕ) (at : ℕ) where
             rw (sym i) (exceeds_none s at stride n h e y (n - k + x) ly (omega arith))))
             (none_exceeds s at stride j h (λ y x ly lx. exceeds_none s at stride n h e y x ly (omega arith)))
 
-    -- beside some columns e: none, and k columns more
-    pub columns_begin : (e : Bool) (o : ℕ) → too_large o ≡ e → too_large o ≡ e || exceeds s at stride 0 h
-    columns_begin e o t = t ∙ go e
-      where
-        none : exceeds s at stride 0 h ≡ false
-        none = none_exceeds s at stride 0 h (λ y x ly lx. absurd (not-suc-le-zero lx))
+    pub columns_none : exceeds s at stride 0 h ≡ false
+    columns_none = none_exceeds s at stride 0 h (λ y x ly lx. absurd (not-suc-le-zero lx))
 
-        go : (e : Bool) → e ≡ e || exceeds s at stride 0 h
-        go true = refl
-        go false = sym none
-
-    pub columns_more : (x k : ℕ) (e : Bool) (o v r : ℕ) → too_large o ≡ e || exceeds s at stride x h → too_large v ≡ exceeds s (at + x) stride k h → too_large r ≡ too_large o || too_large v → too_large r ≡ e || exceeds s at stride (x + k) h
-    columns_more x k e o v r p q t =
-        let i : at + x ≡ at + (x + k) - k = omega arith in
-        let S = exceeds s (at + x) stride k h in
-        let X = exceeds s at stride x h in
-        t ∙ ap₂ (λ (a b : Bool). a || b) p q ∙ turned e X S
-        ∙ ap (λ (b : Bool). e || b) (ap (λ (m : ℕ). exceeds s m stride k h || X) i ∙ columns_all (x + k) x k (omega arith) (omega arith) (omega arith))
-      where
-        turned : (e b c : Bool) → (e || b) || c ≡ e || (c || b)
-        turned true b c = refl
-        turned false true true = refl
-        turned false true false = refl
-        turned false false true = refl
-        turned false false false = refl
+    pub columns_more : (x k n : ℕ) → n ≡ x + k → exceeds s at stride n h ≡ exceeds s at stride x h || exceeds s (at + x) stride k h
+    columns_more x k n e =
+        let i : at + n - k ≡ at + x = omega arith in
+        sym (columns_all n x k (omega arith) (omega arith) (omega arith)) ∙ ap (λ (m : ℕ). exceeds s m stride k h || exceeds s at stride x h) i
+        ∙ or_comm (exceeds s (at + x) stride k h) (exceeds s at stride x h)

@@ -48,6 +48,7 @@ fn or_strips(s: &[u16], at: usize, stride: usize, n: usize, h: usize) -> u16
     o
 }
 
+#[tactic(auto, using(crate::proofs::Samples::row_or))]
 fn or_row(row: &[u16]) -> u16
     ensures { too_large result ≡ list_any too_large row.now }
 {

@@ -7,7 +7,7 @@ use native.Mathlib.Omega.{arith}
 use borrow.Author.Rules.{rules}
 use lib.ListN.{get_or, replicate}
 use Rattle.evc_int.specs.Lists.{with_row, with_block}
-use Rattle.evc_int.proofs.Lists.{row_fits, block_step, block_done}
+use Rattle.evc_int.proofs.Lists.{row_fits, block_step}
 use Rattle.evc_pad.proofs.Rows.{filled, with_block-beside}
 use Rattle.evc_pad.proofs.pad_columns.Invariants.{column}
 use Rattle.evc_pad.proofs.pad_columns.Goals as goal
@@ -34,6 +34,3 @@ loop-y-preserved c =
     let v = get_or i.plane (z.base + i.y * z.stride + z.from) 0 in
     let e : c.fill.new.row ≡ replicate z.n v = search rules in
     turn _ _ _ _ _ _ _ _ _ i.invariant (filled 0 i.plane c.fill.new.row at (at + z.n - at) z.n v e (omega arith) (omega arith)) c.requires.stride_in_bounds.2 c.requires.stride_in_bounds.1 c.requires.fact
-
-pub returns : goal.returns
-returns c = let i = c.loop-y in block_done _ _ _ _ _ _ _ _ i.invariant i.auto.y-end c.loop-y-test.false

@@ -7,7 +7,7 @@ use native.Mathlib.Omega.{arith}
 use native.Mathlib.Nat.{le_refl}
 use lib.ListN.{get_or}
 use Rattle.evc_int.specs.Lists.{with_row, with_block}
-use Rattle.evc_int.proofs.Lists.{row_fits, with_row-ext, with_block-past, with_block-before, block_step, block_done}
+use Rattle.evc_int.proofs.Lists.{row_fits, with_row-ext, with_block-past, with_block-before, block_step}
 use Rattle.evc_pad.proofs.Rows.{copied}
 use Rattle.evc_pad.proofs.pad_rows.Invariants.{row}
 use Rattle.evc_pad.proofs.pad_rows.Goals as goal
@@ -36,6 +36,3 @@ loop-y-preserved c =
     let i = c.loop-y in
     let r = row_fits z.stride c.loop-y-test.true in
     turn _ _ _ _ _ _ _ _ i.invariant (c.copy_within.ensures.after ∙ copied 0 i.plane z.from (z.to + i.y * z.stride) z.stride (omega arith) (omega arith)) c.loop-y-test.true c.requires.fact
-
-pub returns : goal.returns
-returns c = let i = c.loop-y in block_done _ _ _ _ _ _ _ _ i.invariant i.auto.y-end c.loop-y-test.false
