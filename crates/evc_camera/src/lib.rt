@@ -8,7 +8,8 @@ ghost use Rattle.evc_camera.specs.Inner.{Within, AllCounted};
 
 use evc_def::{EvcMv, Scu};
 
-// The units that count, and the whole sums of their list 0 vectors, in quarter samples.
+// The units that count, and the whole sums of their list 0 vectors, in quarter samples. How large they are stands in contracts
+// (`Within`): a ghost field would put a proof into the definition `sums_of`.
 #[derive(Clone, Copy)]
 pub struct Sums {
     pub units: u64,
