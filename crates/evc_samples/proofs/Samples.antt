@@ -154,36 +154,26 @@ module _ (s : List ℕ) (at : ℕ) where
     unfolding exceeds
     rows_more y = rw add-one
 
-  -- the same of the columns of h rows: the first j and the last k are all of them
-  module _ (stride h : ℕ) where
-    pub columns_all : (n j k : ℕ) → j ≤ n → k ≤ n → n ≤ j + k → exceeds s (at + n - k) stride k h || exceeds s at stride j h ≡ exceeds s at stride n h
-    columns_all n j k lj lk m = same_answer (exceeds s (at + n - k) stride k h || exceeds s at stride j h) (exceeds s at stride n h) forth back
-      where
-        forth : exceeds s (at + n - k) stride k h || exceeds s at stride j h ≡ false → exceeds s at stride n h ≡ false
-        forth e =
-            let g = none_true (exceeds s (at + n - k) stride k h) (exceeds s at stride j h) e in
-            none_exceeds s at stride n h (λ y x ly lx. either y x (ltb x j) refl ly lx g.1 g.0)
-          where
-            either : (y x : ℕ) (t : Bool) → ltb x j ≡ t → y < h → x < n → exceeds s at stride j h ≡ false → exceeds s (at + n - k) stride k h ≡ false → get_or s (at + y * stride + x) 0 ≤ 1023
-            either y x true f ly lx a b = exceeds_none s at stride j h a y x ly (ltb-true x j f)
-            either y x false f ly lx a b =
-                let ge = ltb-false x j f in
-                let i : at + n - k + y * stride + (x - (n - k)) ≡ at + y * stride + x = omega arith in
-                rw (sym i) (exceeds_none s (at + n - k) stride k h b y (x - (n - k)) ly (omega arith))
+-- the same of the columns of h rows: the first j and the last k are all of them
+module _ (s : List ℕ) (at stride : ℕ) where
+  pub columns_all : (h n j k : ℕ) → j ≤ n → k ≤ n → n ≤ j + k → exceeds s (at + n - k) stride k h || exceeds s at stride j h ≡ exceeds s at stride n h
+  unfolding exceeds
+  columns_all zero n j k a b c = refl
+  columns_all (suc h) n j k a b c =
+      let r = at + h * stride in
+      let i : r + n - k ≡ at + n - k + h * stride = omega arith in
+      joined (row_exceeds s (at + n - k + h * stride) k) (row_exceeds s r j) (row_exceeds s r n) (exceeds s (at + n - k) stride k h) (exceeds s at stride j h) (exceeds s at stride n h)
+      (rw (sym i) (ends_all s r n j k a b c)) (columns_all h n j k a b c)
+    where
+      joined : (x y r u v e : Bool) → y || x ≡ r → u || v ≡ e → (u || x) || (v || y) ≡ e || r
+      joined x y r u v e p q = grind arith
 
-        back : exceeds s at stride n h ≡ false → exceeds s (at + n - k) stride k h || exceeds s at stride j h ≡ false
-        back e =
-            ap₂ (λ (a b : Bool). a || b)
-            (none_exceeds s (at + n - k) stride k h (λ y x ly lx.
-            let i : at + y * stride + (n - k + x) ≡ at + n - k + y * stride + x = omega arith in
-            rw (sym i) (exceeds_none s at stride n h e y (n - k + x) ly (omega arith))))
-            (none_exceeds s at stride j h (λ y x ly lx. exceeds_none s at stride n h e y x ly (omega arith)))
-
+  module _ (h : ℕ) where
     pub columns_none : exceeds s at stride 0 h ≡ false
     columns_none = none_exceeds s at stride 0 h (λ y x ly lx. absurd (not-suc-le-zero lx))
 
     pub columns_more : (x k n : ℕ) → n ≡ x + k → exceeds s at stride n h ≡ exceeds s at stride x h || exceeds s (at + x) stride k h
     columns_more x k n e =
         let i : at + n - k ≡ at + x = omega arith in
-        sym (columns_all n x k (omega arith) (omega arith) (omega arith)) ∙ ap (λ (m : ℕ). exceeds s m stride k h || exceeds s at stride x h) i
+        sym (columns_all h n x k (omega arith) (omega arith) (omega arith)) ∙ ap (λ (m : ℕ). exceeds s m stride k h || exceeds s at stride x h) i
         ∙ or_comm (exceeds s (at + x) stride k h) (exceeds s at stride x h)
