@@ -17,10 +17,6 @@ use Rattle.evc_camera.specs.declared.Sums.{Sums}
 use Rattle.evc_camera.specs.Camera.{is_counted, with_mv, sums_of}
 use Rattle.evc_camera.specs.Inner.{Within}
 
--- a unit counts by its word
-pub counted_at : (words : List ℕ) (i word : ℕ) (r : Bool) → word ≡ word_at words i → r ≡ (is_coded word && not (is_intra word)) → r ≡ is_counted words i
-counted_at words i word r e p = p ∙ rw e
-
 -- a sum fits 64 bits
 pub sum_fits : (z : ℤ) → nat_abs z ≤ 32768 * most_units → SFits w64 z
 sum_fits z h = fit_abs h (lit< tt)

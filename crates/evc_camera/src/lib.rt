@@ -3,12 +3,13 @@
 ghost use Rattle.std.specs.Prelude.{◌≡◌, cond, true, ◌+◌, ◌*◌, ◌<◌, ◌≤◌, length, pos, nat_abs, ◌+ℤ◌};
 ghost use Rattle.evc_def.specs.Codes.{first_of};
 ghost use Rattle.evc_map.specs.Maps.{most_units, mv_len};
-ghost use Rattle.evc_camera.specs.Camera.{with_mv, sums_of, mean_of, motion_of, answer, camera_checks, camera_motion};
+ghost use Rattle.evc_camera.specs.Camera.{is_counted, with_mv, sums_of, mean_of, motion_of, answer, camera_checks, camera_motion};
 ghost use Rattle.evc_camera.specs.Inner.{Within, AllCounted};
 
 use evc_def::{EvcMv, Scu};
 
-// The units that count, and the whole sums of their list 0 vectors, in quarter samples.
+// The units that count, and the whole sums of their list 0 vectors, in quarter samples. How large they are stands in contracts
+// (`Within`): a ghost field would put a proof into the definition `sums_of`.
 #[derive(Clone, Copy)]
 pub struct Sums {
     pub units: u64,
@@ -61,59 +62,76 @@ fn add_mv(s: Sums, counted: bool, mv: EvcMv) -> Sums
     }
 }
 
-// Whether every unit of these counts.
-fn all_counted(map_scu: &[u32], from: usize, to: usize) -> bool
-    requires { (from ≤ to) × (to ≤ most_units) × (to ≤ length map_scu.now) }
-    ensures { result ≡ true → AllCounted map_scu.now from to }
-{
-    let mut all = true;
-    for i in from..to {
-        all = all & evc_map::mcu_at(map_scu, Scu(i)).IS_COD_NIF();
-    }
-    all
-}
-
-// The sums over the units before `from` become those over the units before `to`; `all` if those between are known to count.
-fn add_units(s: Sums, map_mv: &[i16], map_scu: &[u32], from: usize, to: usize, all: bool) -> Sums
-    requires from_le_to { (from ≤ to) × (to ≤ most_units) × (to ≤ length map_scu.now) × (mv_len * to ≤ length map_mv.now) }
-    requires s_value { (s ≡ sums_of map_mv.now map_scu.now from) × Within s from × (all ≡ true → AllCounted map_scu.now from to) }
-    ensures { (result ≡ sums_of map_mv.now map_scu.now to) × Within result to }
-{
-    let mut sums = s;
-    for i in from..to {
-        let counted = all | evc_map::mcu_at(map_scu, Scu(i)).IS_COD_NIF();
-        let mv = evc_map::mv_at(map_mv, Scu(i), 0);
-        sums = add_mv(sums, counted, mv);
-    }
-    sums
-}
-
 // Units that are first asked together whether all of them count: their vectors are then added without a look at each word.
 const RUN: usize = 16;
 
-fn add_run(s: Sums, map_mv: &[i16], map_scu: &[u32], from: usize) -> Sums
-    requires from_bound { (from + 16 ≤ most_units) × (from + 16 ≤ length map_scu.now) × (mv_len * (from + 16) ≤ length map_mv.now) }
-    requires s_value { (s ≡ sums_of map_mv.now map_scu.now from) × Within s from }
-    ensures { (result ≡ sums_of map_mv.now map_scu.now (from + 16)) × Within result (from + 16) }
-{
-    let all = all_counted(map_scu, from, from + RUN);
-    add_units(s, map_mv, map_scu, from, from + RUN, all)
+// The maps of a picture of so many units.
+#[derive(Drop)]
+struct UnitMaps<'a> {
+    map_mv: &'a [i16],
+    map_scu: &'a [u32],
+    units: usize,
+    ghost covers: { (units ≤ most_units) × (units ≤ length map_scu.now) × (mv_len * units ≤ length map_mv.now) },
 }
 
-fn sum_units(map_mv: &[i16], map_scu: &[u32], units: usize) -> Sums
-    requires { (units ≤ most_units) × (units ≤ length map_scu.now) × (mv_len * units ≤ length map_mv.now) }
-    ensures { (result ≡ sums_of map_mv.now map_scu.now units) × Within result most_units }
-{
-    let runs = units / RUN;
-    let mut s = Sums {
-        units: 0,
-        x: 0,
-        y: 0,
-    };
-    for k in 0..runs {
-        s = add_run(s, map_mv, map_scu, k * RUN);
+impl UnitMaps<'_> {
+    fn counts(&self, i: usize) -> bool
+        requires { i < self.now.units }
+        ensures { result ≡ is_counted self.now.map_scu.now i }
+    {
+        evc_map::mcu_at(self.map_scu, Scu(i)).IS_COD_NIF()
     }
-    add_units(s, map_mv, map_scu, runs * RUN, units, false)
+
+    // Whether every unit of these counts: no stop at the first that does not, so no branch for each.
+    fn all_count(&self, from: usize, to: usize) -> bool
+        requires { (from ≤ to) × (to ≤ self.now.units) }
+        ensures { result ≡ true → AllCounted self.now.map_scu.now from to }
+    {
+        let mut all = true;
+        for i in from..to {
+            all = all & self.counts(i);
+        }
+        all
+    }
+
+    // The sums over the units before `from` become those over the units before `to`; `all` if those between are known to count.
+    fn add_units(&self, s: Sums, from: usize, to: usize, all: bool) -> Sums
+        requires from_le_to { (from ≤ to) × (to ≤ self.now.units) }
+        requires s_value { (s ≡ sums_of self.now.map_mv.now self.now.map_scu.now from) × Within s from × (all ≡ true → AllCounted self.now.map_scu.now from to) }
+        ensures { (result ≡ sums_of self.now.map_mv.now self.now.map_scu.now to) × Within result to }
+    {
+        let mut sums = s;
+        for i in from..to {
+            let counted = all | self.counts(i);
+            let mv = evc_map::mv_at(self.map_mv, Scu(i), 0);
+            sums = add_mv(sums, counted, mv);
+        }
+        sums
+    }
+
+    fn add_run(&self, s: Sums, from: usize) -> Sums
+        requires from_bound { from + 16 ≤ self.now.units }
+        requires s_value { (s ≡ sums_of self.now.map_mv.now self.now.map_scu.now from) × Within s from }
+        ensures { (result ≡ sums_of self.now.map_mv.now self.now.map_scu.now (from + 16)) × Within result (from + 16) }
+    {
+        let all = self.all_count(from, from + RUN);
+        self.add_units(s, from, from + RUN, all)
+    }
+
+    fn sums(&self) -> Sums
+        ensures { (result ≡ sums_of self.now.map_mv.now self.now.map_scu.now self.now.units) × Within result most_units }
+    {
+        let runs = self.units / RUN;
+        let mut s = Sums {
+            units: 0,
+            x: 0,
+            y: 0,
+        };
+        for k in 0..runs {
+            s = self.add_run(s, k * RUN);
+        }
+        self.add_units(s, runs * RUN, self.units, false)
+    }
 }
 
 // ---- the reading
@@ -139,28 +157,21 @@ fn motion_of(s: Sums) -> CameraMotion
     CameraMotion::Moving(mean(s.x, s.units), mean(s.y, s.units))
 }
 
-fn answer(code: u32, motion: CameraMotion) -> EvcCamera
-    ensures { result ≡ answer code motion }
-{
-    match motion {
-        CameraMotion::None => EvcCamera {
-            code,
-            kind: 0,
-            x: 0.0,
-            y: 0.0,
-        },
-        CameraMotion::Still => EvcCamera {
-            code,
-            kind: 1,
-            x: 0.0,
-            y: 0.0,
-        },
-        CameraMotion::Moving(x, y) => EvcCamera {
-            code,
-            kind: 2,
+impl From<CameraMotion> for EvcCamera {
+    ghost from_gives = { λ m r. r ≡ answer 0 m };
+
+    fn from(motion: CameraMotion) -> EvcCamera {
+        let (kind, x, y) = match motion {
+            CameraMotion::None => (0, 0.0, 0.0),
+            CameraMotion::Still => (1, 0.0, 0.0),
+            CameraMotion::Moving(x, y) => (2, x, y),
+        };
+        EvcCamera {
+            code: 0,
+            kind,
             x,
             y,
-        },
+        }
     }
 }
 
@@ -183,9 +194,15 @@ pub fn evc_camera_motion(pic_w: u32, pic_h: u32, map_mv: &[i16], map_scu: &[u32]
 {
     let code = camera_code(pic_w, pic_h, map_mv.len(), map_scu.len());
     if code != 0 {
-        return answer(code, CameraMotion::None);
+        return EvcCamera {
+            code,
+            ..EvcCamera::from(CameraMotion::None)
+        };
     }
-    let units = evc_map::unit_count(pic_w, pic_h);
-    let s = sum_units(map_mv, map_scu, units.index());
-    answer(0, motion_of(s))
+    let maps = UnitMaps {
+        map_mv,
+        map_scu,
+        units: evc_map::unit_count(pic_w, pic_h).index(),
+    };
+    EvcCamera::from(motion_of(maps.sums()))
 }

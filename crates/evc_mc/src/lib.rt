@@ -194,7 +194,8 @@ fn predict_list(
 
 // ---- two predictions
 
-// n samples of both blocks from an offset on: the first block gets the average.
+// n samples of both blocks from an offset on: the first block gets the average. By index: of what a zip over `iter_mut` wrote, a
+// proof knows the length alone.
 fn average_plane(pred0: &mut [u16], pred1: &[u16], offset: usize, n: usize)
     requires n_in_bounds { (offset + n ≤ length pred0.old) × (offset + n ≤ length pred1.now) }
     requires row_small { RowSmall pred0.old offset n × RowSmall pred1.now offset n }

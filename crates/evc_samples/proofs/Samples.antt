@@ -3,16 +3,22 @@
 use Prim.Native.Nat.{ℕ, zero, suc, ◌+◌, ◌*◌, ◌-◌, ◌<◌, ◌≤◌}
 use mathlib.Core.Bool.{Bool, true, false, ◌||◌}
 use mathlib.Core.Path.{◌≡◌, refl, sym, ap, ap₂, ◌∙◌}
-use mathlib.Core.List.{List}
+use mathlib.Core.List.{List, [], ◌∷◌}
 use mathlib.Core.Logic.{⊎_elim}
 use native.Mathlib.Omega.{arith}
 use native.Mathlib.Numerals.{add-one}
-use native.Mathlib.Nat.{zero-add, eq-or-lt_of_le, le_of_suc-le-suc, not-suc-le-zero}
+use native.Mathlib.Nat.{eq-or-lt_of_le, le_of_suc-le-suc, not-suc-le-zero}
 use lib.Bits.{bit_or, bit_and, or_lt, or_add_and, and_le_l, and_le_r}
 use lib.Dec.{ltb}
-use lib.ListN.{get_or, drop}
+use lib.ListN.{length, get_or, take, drop, replicate}
 use lib.Seq.{get_or-drop}
 use borrow.Author.Tests.{ltb-true, ltb-false, lt-ltb, le-ltb}
+use Rattle.std.specs.List.{list_any, fold}
+use Rattle.std.specs.Simd.Lanes.{fold_l, zip2}
+use Rattle.std.proofs.Math.Bool.{or_comm, or-false}
+use Rattle.std.proofs.lemmas.List.{length-take, length-drop}
+use Rattle.std.proofs.lemmas.List.Folds.{list_any_more}
+use Rattle.std.proofs.lemmas.Simd.{length-zip2}
 use Rattle.evc_int.proofs.Bools.{none_true}
 use Rattle.evc_samples.specs.Samples.{too_large, row_exceeds, exceeds}
 
@@ -30,6 +36,49 @@ or_too_large x y = go (ltb 1023 x) (ltb 1023 y) refl refl
         let h = ltb-false 1023 x p in
         let k = ltb-false 1023 y q in
         le-ltb 1023 (bit_or x y) (let l : bit_or x y < 1024 = or_lt 10 x y (omega arith) (omega arith) in omega arith)
+
+zero_fits : too_large 0 ≡ false
+unfolding too_large
+zero_fits = refl
+
+-- ---- what an OR gathers of a list: as two vectors give one, as a vector or a row gives a number
+
+pub any_or : (o l : List ℕ) → length o ≡ length l → list_any too_large (zip2 bit_or o l) ≡ list_any too_large o || list_any too_large l
+any_or [] [] e = refl
+any_or [] (y ∷ l) e = absurd (omega arith)
+any_or (x ∷ o) [] e = absurd (omega arith)
+any_or (x ∷ o) (y ∷ l) e = let h = any_or o l (omega arith) in grind (arith, or_too_large)
+
+any_fold : (o : ℕ) (l : List ℕ) → too_large (fold bit_or o l) ≡ too_large o || list_any too_large l
+any_fold o [] = sym (or-false (too_large o))
+any_fold o (x ∷ l) = let h = any_fold (bit_or o x) l in grind (arith, or_too_large)
+
+pub row_or : (l : List ℕ) → too_large (fold bit_or 0 l) ≡ list_any too_large l
+row_or l = any_fold 0 l ∙ ap (λ (a : Bool). a || list_any too_large l) zero_fits
+
+pub lanes_or : (l : List ℕ) → too_large (fold_l bit_or 0 l) ≡ list_any too_large l
+lanes_or l = ap too_large (same_fold 0 l) ∙ row_or l
+  where
+    same_fold : (o : ℕ) (l : List ℕ) → fold_l bit_or o l ≡ fold bit_or o l
+    same_fold o [] = refl
+    same_fold o (x ∷ l) = same_fold (bit_or o x) l
+
+pub lanes_none : (n : ℕ) → list_any too_large (replicate n 0) ≡ too_large 0
+lanes_none zero = sym zero_fits
+lanes_none (suc n) = ap (λ (a : Bool). a || list_any too_large (replicate n 0)) zero_fits ∙ lanes_none n
+
+-- n samples that are taken out of a plane
+pub taken : (s : List ℕ) (at n : ℕ) → at + n ≤ length s → list_any too_large (take n (drop at s)) ≡ row_exceeds s at n
+unfolding row_exceeds
+taken s at zero a = refl
+taken s at (suc n) a =
+    let lt : n < length (drop at s) = omega (arith, length-drop at s) in
+    (rw add-one at (list_any_more too_large (drop at s) n 0 lt)) ∙ ap₂ (λ (a b : Bool). a || b) (taken s at n (omega arith)) (ap too_large (get_or-drop at s n 0))
+
+-- the lanes, n of them, after a row
+pub lanes_more : (s o : List ℕ) (i j n : ℕ) → length o ≡ n → i + n ≤ length s → j + n ≤ length s → let r = zip2 bit_or (zip2 bit_or o (take n (drop i s))) (take n (drop j s)) in (length r ≡ n) × (list_any too_large r ≡ list_any too_large o || (row_exceeds s i n || row_exceeds s j n))
+lanes_more s o i j n e a b =
+    (grind (arith, length-zip2, length-take, length-drop), grind (arith, any_or, taken, length-zip2, length-take, length-drop))
 
 -- ---- what the answer says of each sample
 
@@ -67,30 +116,12 @@ none_exceeds s at stride n (suc h) q =
 
 -- ---- the walk: its beginning, and one sample of both ends or one row more
 
-pub zero_fits : too_large 0 ≡ false
-unfolding too_large
-zero_fits = refl
-
 same_answer : (a b : Bool) → (a ≡ false → b ≡ false) → (b ≡ false → a ≡ false) → a ≡ b
 same_answer true true f g = refl
 same_answer true false f g = g refl
 same_answer false b f g = sym (f refl)
 
 module _ (s : List ℕ) (at : ℕ) where
-  pub row_none : too_large 0 ≡ row_exceeds s at 0
-  unfolding row_exceeds
-  row_none = zero_fits
-
-  pub row_more : (x o r : ℕ) → too_large o ≡ row_exceeds s at x → too_large r ≡ too_large o || too_large (get_or s (at + x) 0) → too_large r ≡ row_exceeds s at (x + 1)
-  unfolding row_exceeds
-  row_more x o r h e = rw add-one (e ∙ ap (λ (b : Bool). b || too_large (get_or s (at + x) 0)) h)
-
-  -- a row that is handed on as what lies in the plane from it on
-  pub row_from : (n : ℕ) → row_exceeds (drop at s) 0 n ≡ row_exceeds s at n
-  unfolding row_exceeds
-  row_from zero = refl
-  row_from (suc n) = ap₂ (λ (a b : Bool). a || b) (row_from n) (ap too_large (ap (λ (i : ℕ). get_or (drop at s) i 0) (zero-add n) ∙ get_or-drop at s n 0))
-
   -- the first j and the last k are the whole row
   pub ends_all : (n j k : ℕ) → j ≤ n → k ≤ n → n ≤ j + k → row_exceeds s at j || row_exceeds s (at + n - k) k ≡ row_exceeds s at n
   ends_all n j k lj lk m = same_answer (row_exceeds s at j || row_exceeds s (at + n - k) k) (row_exceeds s at n) forth back
@@ -119,58 +150,30 @@ module _ (s : List ℕ) (at : ℕ) where
     unfolding exceeds
     rows_none = zero_fits
 
-    -- one row more, for whatever number or lanes p stands for
-    pub rows_more : (y : ℕ) (p q r : Bool) → p ≡ exceeds s at stride n y → q ≡ row_exceeds s (at + y * stride) n → r ≡ p || q → r ≡ exceeds s at stride n (y + 1)
+    pub rows_more : (y : ℕ) → exceeds s at stride n (y + 1) ≡ exceeds s at stride n y || row_exceeds s (at + y * stride) n
     unfolding exceeds
-    rows_more y p q r h i e = rw add-one (e ∙ ap₂ (λ (a b : Bool). a || b) h i)
+    rows_more y = rw add-one
 
-  -- the same of the columns of h rows: the first j and the last k are all of them
-  module _ (stride h : ℕ) where
-    pub columns_all : (n j k : ℕ) → j ≤ n → k ≤ n → n ≤ j + k → exceeds s (at + n - k) stride k h || exceeds s at stride j h ≡ exceeds s at stride n h
-    columns_all n j k lj lk m = same_answer (exceeds s (at + n - k) stride k h || exceeds s at stride j h) (exceeds s at stride n h) forth back
-      where
-        forth : exceeds s (at + n - k) stride k h || exceeds s at stride j h ≡ false → exceeds s at stride n h ≡ false
-        forth e =
-            let g = none_true (exceeds s (at + n - k) stride k h) (exceeds s at stride j h) e in
-            none_exceeds s at stride n h (λ y x ly lx. either y x (ltb x j) refl ly lx g.1 g.0)
-          where
-            either : (y x : ℕ) (t : Bool) → ltb x j ≡ t → y < h → x < n → exceeds s at stride j h ≡ false → exceeds s (at + n - k) stride k h ≡ false → get_or s (at + y * stride + x) 0 ≤ 1023
-            either y x true f ly lx a b = exceeds_none s at stride j h a y x ly (ltb-true x j f)
-            either y x false f ly lx a b =
-                let ge = ltb-false x j f in
-                let i : at + n - k + y * stride + (x - (n - k)) ≡ at + y * stride + x = omega arith in
-                rw (sym i) (exceeds_none s (at + n - k) stride k h b y (x - (n - k)) ly (omega arith))
+-- the same of the columns of h rows: the first j and the last k are all of them
+module _ (s : List ℕ) (at stride : ℕ) where
+  pub columns_all : (h n j k : ℕ) → j ≤ n → k ≤ n → n ≤ j + k → exceeds s (at + n - k) stride k h || exceeds s at stride j h ≡ exceeds s at stride n h
+  unfolding exceeds
+  columns_all zero n j k a b c = refl
+  columns_all (suc h) n j k a b c =
+      let r = at + h * stride in
+      let i : r + n - k ≡ at + n - k + h * stride = omega arith in
+      joined (row_exceeds s (at + n - k + h * stride) k) (row_exceeds s r j) (row_exceeds s r n) (exceeds s (at + n - k) stride k h) (exceeds s at stride j h) (exceeds s at stride n h)
+      (rw (sym i) (ends_all s r n j k a b c)) (columns_all h n j k a b c)
+    where
+      joined : (x y r u v e : Bool) → y || x ≡ r → u || v ≡ e → (u || x) || (v || y) ≡ e || r
+      joined x y r u v e p q = grind arith
 
-        back : exceeds s at stride n h ≡ false → exceeds s (at + n - k) stride k h || exceeds s at stride j h ≡ false
-        back e =
-            ap₂ (λ (a b : Bool). a || b)
-            (none_exceeds s (at + n - k) stride k h (λ y x ly lx.
-            let i : at + y * stride + (n - k + x) ≡ at + n - k + y * stride + x = omega arith in
-            rw (sym i) (exceeds_none s at stride n h e y (n - k + x) ly (omega arith))))
-            (none_exceeds s at stride j h (λ y x ly lx. exceeds_none s at stride n h e y x ly (omega arith)))
+  module _ (h : ℕ) where
+    pub columns_none : exceeds s at stride 0 h ≡ false
+    columns_none = none_exceeds s at stride 0 h (λ y x ly lx. absurd (not-suc-le-zero lx))
 
-    -- beside some columns e: none, and k columns more
-    pub columns_begin : (e : Bool) (o : ℕ) → too_large o ≡ e → too_large o ≡ e || exceeds s at stride 0 h
-    columns_begin e o t = t ∙ go e
-      where
-        none : exceeds s at stride 0 h ≡ false
-        none = none_exceeds s at stride 0 h (λ y x ly lx. absurd (not-suc-le-zero lx))
-
-        go : (e : Bool) → e ≡ e || exceeds s at stride 0 h
-        go true = refl
-        go false = sym none
-
-    pub columns_more : (x k : ℕ) (e : Bool) (o v r : ℕ) → too_large o ≡ e || exceeds s at stride x h → too_large v ≡ exceeds s (at + x) stride k h → too_large r ≡ too_large o || too_large v → too_large r ≡ e || exceeds s at stride (x + k) h
-    columns_more x k e o v r p q t =
-        let i : at + x ≡ at + (x + k) - k = omega arith in
-        let S = exceeds s (at + x) stride k h in
-        let X = exceeds s at stride x h in
-        t ∙ ap₂ (λ (a b : Bool). a || b) p q ∙ turned e X S
-        ∙ ap (λ (b : Bool). e || b) (ap (λ (m : ℕ). exceeds s m stride k h || X) i ∙ columns_all (x + k) x k (omega arith) (omega arith) (omega arith))
-      where
-        turned : (e b c : Bool) → (e || b) || c ≡ e || (c || b)
-        turned true b c = refl
-        turned false true true = refl
-        turned false true false = refl
-        turned false false true = refl
-        turned false false false = refl
+    pub columns_more : (x k n : ℕ) → n ≡ x + k → exceeds s at stride n h ≡ exceeds s at stride x h || exceeds s (at + x) stride k h
+    columns_more x k n e =
+        let i : at + n - k ≡ at + x = omega arith in
+        sym (columns_all h n x k (omega arith) (omega arith) (omega arith)) ∙ ap (λ (m : ℕ). exceeds s m stride k h || exceeds s at stride x h) i
+        ∙ or_comm (exceeds s (at + x) stride k h) (exceeds s at stride x h)

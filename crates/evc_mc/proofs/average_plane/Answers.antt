@@ -19,14 +19,14 @@ still l l₀ o i f e = ap (λ (k : List ℕ). get_or k (o + i) 0) e ∙ with_row
 
 pub loop-i-init : goal.loop-i-init
 unfolding with_row
-loop-i-init c = (omega arith, refl, refl)
+loop-i-init c = refl
 
 -- both samples are at most 1023
 small : (c : place.In-loop Pre Post goal.the-invariant-loop-i goal.the-decreases-loop-i clauses) → let i = c.loop-i.i in (get_or c.loop-i.pred0 (c.args.offset + i) 0 ≤ 1023) × (get_or c.args.pred1.now (c.args.offset + i) 0 ≤ 1023)
 small c =
     let i = c.loop-i.i in
     let lt : i < c.args.n = omega arith in
-    (omega (arith, still _ _ _ _ _ c.loop-i.invariant.2, c.requires.row_small.0 i lt), c.requires.row_small.1 i lt)
+    (omega (arith, still _ _ _ _ _ c.loop-i.invariant, c.requires.row_small.0 i lt), c.requires.row_small.1 i lt)
 
 pub overflow_add-pred0-in-loop-i-2 : goal.overflow_add-pred0-in-loop-i-2
 overflow_add-pred0-in-loop-i-2 c = record { fits = omega (arith, small c.before.before.before) }
@@ -37,4 +37,4 @@ overflow_add-pred0-in-loop-i-3 c = record { fits = omega (arith, small c.before.
 pub loop-i-preserved : goal.loop-i-preserved
 loop-i-preserved c =
     let i = c.loop-i.invariant in
-    (omega arith, simp length-set i.1, row_step _ _ _ _ _ _ i.2 (ap (λ (v : ℕ). average v (get_or c.args.pred1.now (c.args.offset + c.loop-i.i) 0)) (still _ _ _ _ _ i.2)))
+    row_step _ _ _ _ _ _ i (ap (λ (v : ℕ). average v (get_or c.args.pred1.now (c.args.offset + c.loop-i.i) 0)) (still _ _ _ _ _ i))

@@ -1,7 +1,0 @@
--- `evc_camera::sum_units` meets its contract. The invariant: the sums are those over the first k runs. Assumes nothing.
-use native.Mathlib.Omega.{arith}
-use Rattle.evc_camera.proofs.Units.{no_units}
-use Rattle.evc_camera.proofs.sum_units.Goals as goal
-
-pub loop-k-init : goal.loop-k-init
-loop-k-init c = (omega arith, no_units _ _, record { few = omega arith; across = omega arith; down = omega arith })
