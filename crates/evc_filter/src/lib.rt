@@ -1,6 +1,6 @@
 #![tactic(auto)]
 
-ghost use Rattle.std.specs.Prelude.{◌≡◌, ◌+◌, ◌-◌, ◌*◌, ◌<◌, ◌≤◌, min, length, get_or, cond, ltb};
+ghost use Rattle.std.specs.Prelude.{List, ℕ, ◌≡◌, ◌+◌, ◌-◌, ◌*◌, ◌<◌, ◌≤◌, min, length, get_or, cond, ltb};
 ghost use Rattle.evc_filter.specs.Filter.{phases};
 ghost use Rattle.evc_filter.specs.Inner.{taps_of, offsets_of, Small, first_sum, whole_sum, second_sum, finished, Under, first_at, single_at, second_at};
 
@@ -199,46 +199,96 @@ fn pair_sum(s: &[u16], i: usize, j: usize) -> u16
     s[i] + s[j]
 }
 
+// Where the samples under the taps lie, and the taps' sizes.
+#[derive(Clone, Copy)]
+pub struct Filter {
+    pub offsets: Offsets,
+    pub taps: Taps,
+}
+
+pub fn filter_of(t: PlaneType, step: usize, phase: usize) -> Filter
+    requires { (step ≤ 65535) × (phase < phases t) }
+    ensures { result ≡ record { offsets = offsets_of t step; taps = taps_of t phase } }
+{
+    Filter {
+        offsets: offsets_of(t, step),
+        taps: taps_of(t, phase),
+    }
+}
+
+// The sums that lie under a filter at a place.
+pub trait Stage {
+    ghost use Rattle.evc_filter.specs.declared.Offsets.{Offsets};
+    ghost use Rattle.evc_filter.specs.declared.Taps.{Taps};
+
+    // No sample under the taps is above it.
+    ghost most: { ℕ };
+
+    ghost value: { List ℕ → ℕ → Offsets → Taps → ℕ };
+
+    fn sample(s: &[u16], at: usize, f: Filter) -> u16
+        requires { Under most s.now at f.offsets f.taps }
+        ensures { result ≡ value s.now at f.offsets f.taps };
+}
+
 // The first of two stages, a single direction, and the second of two stages.
 
-pub fn first_at(s: &[u16], at: usize, o: Offsets, taps: Taps) -> u16
-    requires { Under 1023 s.now at o taps }
-    ensures { result ≡ first_at s.now at o taps }
-{
-    first_sum(
-        taps,
-        pair_sum(s, at, at + o.p1),
-        pair_sum(s, at + o.q0, at + o.q1),
-        sample(s, at + o.x),
-        sample(s, at + o.y),
-    )
+pub struct First;
+
+impl Stage for First {
+    ghost most = { 1023 };
+
+    ghost value = { first_at };
+
+    fn sample(s: &[u16], at: usize, f: Filter) -> u16 {
+        let o = f.offsets;
+        first_sum(
+            f.taps,
+            pair_sum(s, at, at + o.p1),
+            pair_sum(s, at + o.q0, at + o.q1),
+            sample(s, at + o.x),
+            sample(s, at + o.y),
+        )
+    }
 }
 
-pub fn single_at(s: &[u16], at: usize, o: Offsets, taps: Taps) -> u16
-    requires { Under 1023 s.now at o taps }
-    ensures { result ≡ single_at s.now at o taps }
-{
-    let sum = rounded_sum(
-        taps,
-        pair_sum(s, at, at + o.p1),
-        pair_sum(s, at + o.q0, at + o.q1),
-        sample(s, at + o.x),
-        sample(s, at + o.y),
-        8,
-    );
-    finish(sum, 320)
+pub struct Single;
+
+impl Stage for Single {
+    ghost most = { 1023 };
+
+    ghost value = { single_at };
+
+    fn sample(s: &[u16], at: usize, f: Filter) -> u16 {
+        let o = f.offsets;
+        let sum = rounded_sum(
+            f.taps,
+            pair_sum(s, at, at + o.p1),
+            pair_sum(s, at + o.q0, at + o.q1),
+            sample(s, at + o.x),
+            sample(s, at + o.y),
+            8,
+        );
+        finish(sum, 320)
+    }
 }
 
-pub fn second_at(s: &[u16], at: usize, o: Offsets, taps: Taps) -> u16
-    requires { Under 26603 s.now at o taps }
-    ensures { result ≡ second_at s.now at o taps }
-{
-    let sum = second_sum(
-        taps,
-        pair_sum(s, at, at + o.p1),
-        pair_sum(s, at + o.q0, at + o.q1),
-        sample(s, at + o.x),
-        sample(s, at + o.y),
-    );
-    finish(sum, 840)
+pub struct Second;
+
+impl Stage for Second {
+    ghost most = { 26603 };
+
+    ghost value = { second_at };
+
+    fn sample(s: &[u16], at: usize, f: Filter) -> u16 {
+        let o = f.offsets;
+        let sum = second_sum(
+            f.taps,
+            pair_sum(s, at, at + o.p1),
+            pair_sum(s, at + o.q0, at + o.q1),
+            sample(s, at + o.x),
+            sample(s, at + o.y),
+        );
+        finish(sum, 840)
+    }
 }
