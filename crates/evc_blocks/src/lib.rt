@@ -32,7 +32,7 @@ pub fn sample_rows<S: Stage, const N: usize>(
     }
 }
 
-// A block of 8, 4 or 2 columns, by its width.
+// A block of 2, 4 or 8 columns. By ranges: with a width that the optimizer knows it widens the loop over the rows.
 pub fn sample_block<S: Stage>(
     s: &[u16],
     at: usize,
@@ -49,8 +49,8 @@ pub fn sample_block<S: Stage>(
     ensures { d.new ≡ with_block d.old to width n h (λ (y x : ℕ). S.value s.now (at + y * stride + x) f.offsets f.taps) }
 {
     match n {
-        4 => sample_rows::<S, 4>(s, at, stride, h, f, d, to, width, one),
-        2 => sample_rows::<S, 2>(s, at, stride, h, f, d, to, width, one),
+        0..4 => sample_rows::<S, 2>(s, at, stride, h, f, d, to, width, one),
+        4..8 => sample_rows::<S, 4>(s, at, stride, h, f, d, to, width, one),
         _ => sample_rows::<S, 8>(s, at, stride, h, f, d, to, width, one),
     }
 }
