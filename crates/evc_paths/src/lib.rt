@@ -77,6 +77,7 @@ pub fn select(first: bool, a: usize, b: usize) -> usize
 }
 
 // One direction, across or down. By groups of eight columns; a block of 4 or 2 columns is one group.
+#[inline(never)]
 pub fn evc_mc_one(
     t: PlaneType,
     s: &[u16],

@@ -1,7 +1,10 @@
 -- `evc_filter::FirstStage::sample` meets its contract. Assumes nothing.
-use Rattle.evc_filter.specs.Inner.{first_at}
+use mathlib.Core.Path.{ap, ◌∙◌}
+use Rattle.evc_filter.specs.declared.Numbers.{Numbers}
+use Rattle.evc_filter.specs.Inner.{first_sum, first_at}
 use Rattle.evc_filter.proofs.FirstStage.sample.Goals as goal
 
 pub returns : goal.returns
 unfolding first_at
-returns c = cc
+returns c =
+    c.first_sum.ensures.0 ∙ ap (λ (n : Numbers). first_sum c.args.f.taps n.p n.q n.x n.y) c.under.ensures
