@@ -9,9 +9,8 @@ use native.Mathlib.Omega.{arith}
 use borrow.Author.Tests.{le-ltb, ltb-true, ltb-false}
 use lib.Dec.{ltb}
 use lib.ListN.{length, get_or, drop}
-use Rattle.std.specs.Int.{div_ceil}
 use Rattle.evc_int.specs.Lists.{with_row, with_block}
-use Rattle.evc_int.proofs.Lists.{row_fits, length-with_block, with_row-ext, with_row-join, with_block-ext, with_block-in, with_block-run, columns_step, columns_none}
+use Rattle.evc_int.proofs.Lists.{row_fits, length-with_block, with_row-ext, with_row-join, with_block-ext, with_block-in, with_block-run, columns_step}
 use Rattle.evc_int.proofs.Whole.{Is}
 use Rattle.evc_filter.specs.Filter.{phases, reach, interpolated, row_stage, interpolated_twice}
 use Rattle.evc_filter.specs.Inner.{taps_of, offsets_of, Bounded, first_at, single_at, second_at}
@@ -61,6 +60,9 @@ last_place_lem UV step = refl
 abbrev pub filter : PlaneType → ℕ → ℕ → Filter
 filter k step phase = record { offsets = offsets_of k step; taps = taps_of k phase }
 
+pub by_step : (k : PlaneType) (phase : ℕ) {i step : ℕ} {f : Filter} → f ≡ filter k i phase → i ≡ step → f ≡ filter k step phase
+by_step k phase p e = p ∙ ap (λ (i : ℕ). filter k i phase) e
+
 -- in a window, across and down
 module _ (k : PlaneType) (s : List ℕ) (at stride w h : ℕ) where
   pub near_across : Within s at stride (w + reach k) h → (y x : ℕ) → y < h → x < w → Near 1023 k s (at + y * stride + x) 1
@@ -92,12 +94,12 @@ module _ (k : PlaneType) (s : List ℕ) (at stride w h : ℕ) (across : Bool) (q
       go false l = omega (arith, add-mul h (reach k) stride)
 
   -- n columns from column c on, whose first sample is at i
-  pub single_asks : (phase c n : ℕ) (d : List ℕ) (f : Filter) → f ≡ filter k (step_of across stride) phase → phase < phases k → c + n ≤ w
+  pub single_asks : (phase c n i : ℕ) (d : List ℕ) (f : Filter) → f ≡ filter k (step_of across stride) phase → phase < phases k → c + n ≤ w → i ≡ at + c
       → at + (h + cond across 0 (reach k)) * stride + (w + cond across (reach k) 0) ≤ length s + stride → h * w ≤ length d
-      → Rows 1023 n stride h s (at + c) f.offsets f.taps × (c + h * w + n ≤ length d + w)
-  single_asks phase c n d f ef l r a b =
+      → Rows 1023 n stride h s i f.offsets f.taps × (c + h * w + n ≤ length d + w)
+  single_asks phase c n i d f ef l r e a b =
       let g = ends a in
-      rw ef (
+      rw (ef, e) (
         record {
           within = omega (arith, last_place_lem k (step_of across stride));
           ordered = offsets_ordered k (step_of across stride);
@@ -288,26 +290,8 @@ pub first_row_lem : (k : PlaneType) (h stride : ℕ) → stride ≤ (h + reach k
 first_row_lem Y h stride = omega (arith, row_fits {y = 0} {h = h + 5} stride (omega arith))
 first_row_lem UV h stride = omega (arith, row_fits {y = 0} {h = h + 3} stride (omega arith))
 
--- the groups of at most eight columns that a block has
-pub record Grouped (w n : ℕ) : Type 0 where
-  pub wide : is_row_width n ≡ true
-  pub small : n ≤ 8
-  pub all : div_ceil w 8 * n ≡ w
-
-pub grouped : (w n : ℕ) → is_row_width w ≡ true → n ≡ cond (ltb w 8) w 8 → Grouped w n
-grouped w n e en =
-    subst (Grouped w) (sym en)
-    (by_width (λ (w : ℕ). Grouped w (cond (ltb w 8) w 8)) w e (record { wide = refl; small = omega arith; all = refl }) (record { wide = refl; small = omega arith; all = refl })
-    (λ m a b. let z : cond (ltb m 8) m 8 ≡ 8 = ap (λ (t : Bool). cond t m 8) (le-ltb m 8 a) in subst (Grouped m) (sym z) (record { wide = refl; small = omega arith; all = omega arith })))
-
-pub no_group : (d : List ℕ) (w n h : ℕ) (f : ℕ → ℕ → ℕ) → d ≡ with_block d 0 w (0 * n) h f
-no_group d w n h f = let z : 0 * n ≡ 0 = omega arith in sym (ap (λ (c : ℕ). with_block d 0 w c h f) z ∙ columns_none d 0 w h f)
-
-pub group_in : {w n : ℕ} → Grouped w n → (x : ℕ) → x < div_ceil w 8 → x * n + n ≤ w
-group_in {w} {n} g x l = omega (arith, g.all, row_fits n l)
-
-pub full : (w cg : ℕ) → is_row_width w ≡ true → 8 ≤ w → cg % 8 ≡ 0 → w < cg + 8 → w ≤ cg
-full w cg e l m t = let d = (eights w e (λ f. absurd (omega arith)) (λ f. absurd (omega arith))).1 in omega arith
+pub eighths : (w : ℕ) → is_row_width w ≡ true → 8 ≤ w → 8 * (w / 8) ≡ w
+eighths w e l = let d = (eights w e (λ f. absurd (omega arith)) (λ f. absurd (omega arith))).1 in omega arith
 
 -- the first stage's numbers fit the array of a low block, and that of a plane's type
 pub low_fits : (k : PlaneType) (h : ℕ) → h ≤ 8 → (h + reach k) * 8 ≤ 104

@@ -8,6 +8,7 @@ ghost use Rattle.evc_filter.specs.Filter.{phases, reach, interpolated, interpola
 ghost use Rattle.evc_lanes.specs.Inner.{is_row_width};
 ghost use Rattle.evc_paths.specs.Inner.{Within};
 
+use evc_blocks::Layout;
 use evc_filter::{First, Second, Single};
 use evc_plane::PlaneType;
 
@@ -77,7 +78,6 @@ pub fn select(first: bool, a: usize, b: usize) -> usize
 }
 
 // One direction, across or down. By groups of eight columns; a block of 4 or 2 columns is one group.
-#[inline(never)]
 pub fn evc_mc_one(
     t: PlaneType,
     s: &[u16],
@@ -95,10 +95,25 @@ pub fn evc_mc_one(
     ensures { pred.new ≡ with_block pred.old 0 w w h (λ (y x : ℕ). interpolated t phase s.now (at + y * stride + x) (cond across 1 stride)) }
 {
     let f = evc_filter::filter_of(t, select(across, 1, stride), phase);
-    let n = select(w < 8, w, 8);
-    for group in 0..w.div_ceil(8) {
-        let cg = group * n;
-        evc_blocks::sample_block::<Single>(s, at + cg, stride, n, h, f, pred, cg, w, 1);
+    let from = Layout { at, stride };
+    let to = Layout { at: 0, stride: w };
+    if w < 8 {
+        evc_blocks::sample_block::<Single>(s, from, w, h, f, pred, to, 1);
+        return;
+    }
+    // Called at two places, the loop over the rows is not built into this function, where it has 5 additions more: a block of 64 by 64 takes a tenth longer.
+    if w == 8 {
+        evc_blocks::sample_rows::<Single, 8>(s, from, h, f, pred, to, 1);
+        return;
+    }
+    for group in 0..w / 8 {
+        let cg = 8 * group;
+        let from = Layout {
+            at: at + cg,
+            stride,
+        };
+        let to = Layout { at: cg, stride: w };
+        evc_blocks::sample_rows::<Single, 8>(s, from, h, f, pred, to, 1);
     }
 }
 
@@ -124,36 +139,26 @@ fn columns(
     ensures { pred.new ≡ with_block pred.old to w n h (λ (y x : ℕ). interpolated_twice t dx dy s.now (at + y * stride + x) stride) }
 {
     let one = unit(h);
-    evc_blocks::sample_block::<First>(
-        &*s,
-        at,
-        stride,
-        n,
-        h + rows_more(t),
-        evc_filter::filter_of(t, 1, dx),
-        m,
-        0,
-        n,
-        one,
-    );
+    let first = evc_filter::filter_of(t, 1, dx);
+    let rows = h + rows_more(t);
+    let between = Layout { at: 0, stride: n };
+    evc_blocks::sample_block::<First>(&*s, Layout { at, stride }, n, rows, first, m, between, one);
     let lanes = select(h * n < 8, 4, 8);
+    let second = evc_filter::filter_of(t, n, dy);
     let width = select(n < 8, lanes, w);
-    evc_blocks::sample_block::<Second>(
-        m,
-        0,
-        lanes,
-        lanes,
-        h * n / lanes,
-        evc_filter::filter_of(t, n, dy),
-        pred,
-        to,
-        width,
-        one,
-    );
+    let from = Layout {
+        at: 0,
+        stride: lanes,
+    };
+    let to = Layout {
+        at: to,
+        stride: width,
+    };
+    evc_blocks::sample_block::<Second>(m, from, lanes, h * n / lanes, second, pred, to, one);
 }
 
-// By groups of eight columns, as the Rust.
-fn groups(
+// By groups of eight columns, as the Rust, through an array of N numbers.
+fn groups<const N: usize>(
     t: PlaneType,
     s: &[u16],
     at: usize,
@@ -162,21 +167,49 @@ fn groups(
     h: usize,
     dx: usize,
     dy: usize,
-    m: &mut [u16],
     pred: &mut [u16],
 )
     requires t_in_bounds { (at + (h + reach t) * stride + (w + reach t) ≤ length s.now + stride) × (h * w ≤ length pred.old) }
-    requires w_value { (is_row_width w ≡ true) × (w ≤ 64) × (is_row_width h ≡ true) × (h ≤ 64) × (dx < phases t) × (dy < phases t) × ((h + reach t) * 8 ≤ length m.old) }
+    requires w_value { (is_row_width w ≡ true) × (w ≤ 64) × (is_row_width h ≡ true) × (h ≤ 64) × (dx < phases t) × (dy < phases t) × ((h + reach t) * 8 ≤ N) }
+    requires few { N ≤ 552 }
     requires within { Within s.now at stride (w + reach t) (h + reach t) }
     ensures { pred.new ≡ with_block pred.old 0 w w h (λ (y x : ℕ). interpolated_twice t dx dy s.now (at + y * stride + x) stride) }
 {
+    let mut intermediate = [0u16; N];
+    // With one loop for both, the number of columns not a constant, a block of 4 or 2 columns takes a tenth longer.
     if w < 8 {
-        columns(t, s, at, stride, w, h, dx, dy, m, pred, 0, w);
+        columns(
+            t,
+            s,
+            at,
+            stride,
+            w,
+            h,
+            dx,
+            dy,
+            &mut intermediate,
+            pred,
+            0,
+            w,
+        );
         return;
     }
     for group in 0..w / 8 {
         let cg = 8 * group;
-        columns(t, s, at + cg, stride, 8, h, dx, dy, m, pred, cg, w);
+        columns(
+            t,
+            s,
+            at + cg,
+            stride,
+            8,
+            h,
+            dx,
+            dy,
+            &mut intermediate,
+            pred,
+            cg,
+            w,
+        );
     }
 }
 
@@ -198,18 +231,11 @@ pub fn evc_mc_nn(
 {
     // Zeroing 552 numbers takes a tenth of the time of a block of 8 rows.
     if h <= 8 {
-        let mut intermediate = [0u16; 104];
-        groups(t, s, at, stride, w, h, dx, dy, &mut intermediate, pred);
+        groups::<104>(t, s, at, stride, w, h, dx, dy, pred);
         return;
     }
     match t {
-        PlaneType::Y => {
-            let mut intermediate = [0u16; 552];
-            groups(t, s, at, stride, w, h, dx, dy, &mut intermediate, pred);
-        }
-        PlaneType::UV => {
-            let mut intermediate = [0u16; 280];
-            groups(t, s, at, stride, w, h, dx, dy, &mut intermediate, pred);
-        }
+        PlaneType::Y => groups::<552>(t, s, at, stride, w, h, dx, dy, pred),
+        PlaneType::UV => groups::<280>(t, s, at, stride, w, h, dx, dy, pred),
     }
 }

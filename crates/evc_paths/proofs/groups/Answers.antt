@@ -2,23 +2,24 @@
 use Prim.Native.Nat.{ℕ, ◌+◌, ◌*◌}
 use mathlib.Core.Path.{refl, sym, ◌∙◌}
 use native.Mathlib.Omega.{arith}
+use lib.ListN.{length-replicate}
 use Rattle.evc_int.proofs.Lists.{columns_none}
 use Rattle.evc_filter.specs.Filter.{reach, interpolated_twice}
 use Rattle.evc_paths.proofs.Paths.{part_within, group_step}
 use Rattle.evc_paths.proofs.groups.Goals as goal
 
 pub loop-group-init : goal.loop-group-init
-loop-group-init c = let a = c.args in (omega arith, refl, refl, sym (columns_none a.pred.now 0 a.w a.h _))
+loop-group-init g c = let a = c.args in (omega arith, length-replicate _ _, refl, sym (columns_none a.pred.now 0 a.w a.h _))
 
 pub columns-requires-in-loop-group-clause-w_value : goal.columns-requires-in-loop-group-clause-w_value
-columns-requires-in-loop-group-clause-w_value c =
+columns-requires-in-loop-group-clause-w_value g c =
     let a = c.args in
     let l = c.loop-group in
     let t = c.loop-group-test.true in
     (λ l. absurd (omega arith), part_within a.s.now a.at a.stride a.w (reach a.t) (a.h + reach a.t) (8 * l.group) 8 (omega arith) c.requires.within)
 
 pub loop-group-preserved : goal.loop-group-preserved
-loop-group-preserved c =
+loop-group-preserved g c =
     let l = c.loop-group in
     let a = c.args in
     let t = c.loop-group-test.true in (

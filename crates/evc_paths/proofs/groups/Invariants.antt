@@ -7,5 +7,5 @@ use Rattle.evc_filter.specs.Filter.{interpolated_twice}
 use Rattle.evc_paths.proofs.groups.Given as goal
 
 abbrev pub invariant-loop-group : goal.invariant-loop-group
-invariant-loop-group l =
-    (l.group ≤ l.w / 8) × (length l.m ≡ length l.initial.m) × (length l.pred ≡ length l.initial.pred) × (l.pred ≡ with_block l.initial.pred 0 l.w (8 * l.group) l.h (λ (y x : ℕ). interpolated_twice l.t l.dx l.dy l.s (l.at + y * l.stride + x) l.stride))
+invariant-loop-group g l =
+    (l.group ≤ l.w / 8) × (length l.intermediate ≡ g.row.N) × (length l.pred ≡ length l.initial.pred) × (l.pred ≡ with_block l.initial.pred 0 l.w (8 * l.group) l.h (λ (y x : ℕ). interpolated_twice l.t l.dx l.dy l.s (l.at + y * l.stride + x) l.stride))
