@@ -22,6 +22,7 @@ fn sizes(a: u16, b: u16, c: u16, d: u16) -> Taps
 }
 
 // By row: those of luma, then those of chroma. One match for both, which becomes a look-up; one in a constant array copies the array first.
+#[tactic(auto, unfolding(crate::specs::Inner::taps_of))]
 fn taps_at(row: usize) -> Taps
     requires { row < 12 }
     ensures { result ≡ cond (ltb row 4) (taps_of PlaneType.Y row) (taps_of PlaneType.UV (row - 4)) }
@@ -223,7 +224,7 @@ pub fn filter_of(t: PlaneType, step: usize, phase: usize) -> Filter
     }
 }
 
-// The sums that lie under a filter at a place.
+// What a stage of the interpolation makes of the samples under a filter.
 pub trait Stage {
     ghost use Rattle.evc_filter.specs.declared.Offsets.{Offsets};
     ghost use Rattle.evc_filter.specs.declared.Taps.{Taps};
@@ -238,8 +239,7 @@ pub trait Stage {
         ensures { result ≡ value s.now at f.offsets f.taps };
 }
 
-// The first of two stages, a single direction, and the second of two stages.
-
+// The first of two stages.
 pub struct First;
 
 impl Stage for First {
@@ -247,11 +247,13 @@ impl Stage for First {
 
     ghost value = { first_at };
 
+    #[tactic(auto, unfolding(crate::specs::Inner::first_at))]
     fn sample(s: &[u16], at: usize, f: Filter) -> u16 {
         first_sum(f.taps, under(s, at, f.offsets))
     }
 }
 
+// The only stage of a single direction.
 pub struct Single;
 
 impl Stage for Single {
@@ -259,11 +261,13 @@ impl Stage for Single {
 
     ghost value = { single_at };
 
+    #[tactic(auto, unfolding(crate::specs::Inner::single_at, crate::specs::Inner::first_at))]
     fn sample(s: &[u16], at: usize, f: Filter) -> u16 {
         finish(rounded_sum(f.taps, under(s, at, f.offsets), 8), 320)
     }
 }
 
+// The second of two stages.
 pub struct Second;
 
 impl Stage for Second {
@@ -271,6 +275,7 @@ impl Stage for Second {
 
     ghost value = { second_at };
 
+    #[tactic(auto, unfolding(crate::specs::Inner::second_at))]
     fn sample(s: &[u16], at: usize, f: Filter) -> u16 {
         finish(second_sum(f.taps, under(s, at, f.offsets)), 840)
     }

@@ -29,18 +29,16 @@ pub fn copy_row(s: &[u16], n: usize, d: &mut [u16], to: usize)
     requires { (n ≤ length s.now) × (to + n ≤ length d.old) × (is_row_width n ≡ true) }
     ensures { d.new ≡ with_row d.old to n (λ (x : ℕ). get_or s.now x 0) }
 {
-    if n == 4 {
-        copy::<4>(s, 0, d, to);
-        return;
-    }
-    if n == 2 {
-        copy::<2>(s, 0, d, to);
-        return;
-    }
-    let mut x = 0;
-    while x + 8 <= n {
-        copy::<8>(s, x, d, to + x);
-        x += 8;
+    match n {
+        2 => copy::<2>(s, 0, d, to),
+        4 => copy::<4>(s, 0, d, to),
+        _ => {
+            let mut x = 0;
+            while x + 8 <= n {
+                copy::<8>(s, x, d, to + x);
+                x += 8;
+            }
+        }
     }
 }
 
