@@ -18,11 +18,7 @@ fn copy<const N: usize>(s: &[u16], at: usize, d: &mut [u16], to: usize)
     requires { (at + N ≤ length s.now) × (to + N ≤ length d.old) }
     ensures { d.new ≡ with_row d.old to N (λ (x : ℕ). get_or s.now (at + x) 0) }
 {
-    let mut numbers = [0; N];
-    for x in 0..N {
-        numbers[x] = s[at + x];
-    }
-    evc_lanes::put(d, to, &numbers);
+    d[to..to + N].copy_from_slice(&s[at..at + N]);
 }
 
 pub fn copy_row(s: &[u16], n: usize, d: &mut [u16], to: usize)
