@@ -8,11 +8,7 @@ use native.Mathlib.Nat.{add-mul, mul-le-mul_left, div-add-mod', div-lt_iff_lt-mu
 use native.Mathlib.Omega.{arith}
 use borrow.Author.Tests.{le-ltb, ltb-true, ltb-false}
 use lib.Dec.{ltb}
-use lib.ListN.{length, set, get_or, take, drop, length-drop}
-use Rattle.std.proofs.Common.{get_or-take}
-use lib.Seq.{paste, paste-zero, paste-suc, length-take-le}
-use borrow.Rule.Slice.PartMut.{put_mid}
-use Rattle.std.proofs.lemmas.Slice.{put_mid-paste}
+use lib.ListN.{length, get_or, drop}
 use Rattle.evc_int.specs.Lists.{with_row, with_block}
 use Rattle.evc_int.proofs.Lists.{row_fits, length-with_block, with_row-ext, with_row-join, with_block-ext, with_block-in, with_block-run, columns_step}
 use Rattle.evc_int.proofs.Whole.{Is}
@@ -124,20 +120,6 @@ pub row_sample : (i : ℕ) (s : List ℕ) (x : ℕ) → get_or (drop i s) x 0 �
 row_sample zero s x = ap (λ (i : ℕ). get_or s i 0) (omega arith)
 row_sample (suc i) [] x = refl
 row_sample (suc i) (a ∷ s) x = let e : suc (i + x) ≡ suc i + x = omega arith in row_sample i s x ∙ ap (λ (j : ℕ). get_or (a ∷ s) j 0) e
-
--- a copy to a part of a list
-pasted : (d : List ℕ) (to : ℕ) (m : List ℕ) (n : ℕ) → to + n ≤ length d → n ≤ length m → paste d to m n ≡ with_row d to n (λ (x : ℕ). get_or m x 0)
-unfolding with_row
-pasted d to m zero a b = sym (paste-zero d to m)
-pasted d to m (suc n) a b = sym (paste-suc d to m n 0 (omega arith) (omega arith)) ∙ ap (λ (l : List ℕ). set l (to + n) (get_or m n 0)) (pasted d to m n (omega arith) (omega arith))
-
-pub part_copied : (d s v : List ℕ) (to at n k j : ℕ) → k ≡ n → j ≡ n → to + n ≤ length d → at + n ≤ length s → v ≡ take j (drop at s) → put_mid to k d v ≡ with_row d to n (λ (x : ℕ). get_or s (at + x) 0)
-part_copied d s v to at n k j ek ej a b e =
-    let f : v ≡ take n (drop at s) = e ∙ ap (λ (i : ℕ). take i (drop at s)) ej in
-    let l : length (take n (drop at s)) ≡ n = length-take-le n (drop at s) (simp length-drop (omega arith)) in
-    put_mid-paste to k d v (take n (drop at s)) n f (sym ek) (sym l)
-    ∙ pasted d to (take n (drop at s)) n a (omega arith)
-    ∙ with_row-ext d to n _ _ (λ x lx. get_or-take n (drop at s) x 0 lx ∙ row_sample at s x)
 
 pub copied_more : (d₀ d v s : List ℕ) (to x : ℕ) → d ≡ with_row d₀ to x (λ (i : ℕ). get_or s i 0) → v ≡ with_row d (to + x) 8 (λ (i : ℕ). get_or s (x + i) 0) → v ≡ with_row d₀ to (x + 8) (λ (i : ℕ). get_or s i 0)
 copied_more d₀ d v s to x p q = q ∙ ap (λ (l : List ℕ). with_row l (to + x) 8 (λ (i : ℕ). get_or s (x + i) 0)) p ∙ with_row-join d₀ to x 8 (λ (i : ℕ). get_or s i 0)

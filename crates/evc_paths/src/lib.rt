@@ -12,13 +12,16 @@ use evc_blocks::Layout;
 use evc_filter::{First, Second, Single};
 use evc_plane::PlaneType;
 
-// Through an array: straight from slice to slice, and by a counted loop of such copies, the optimizer calls the C library for each row,
-// and a block of 8 by 8 takes 1.6 times the time.
+// Through an array: by `copy_from_slice` whole samples take up to 1.4 times as long (luma 32 by 32: 232 against 165 ns).
 fn copy<const N: usize>(s: &[u16], at: usize, d: &mut [u16], to: usize)
     requires { (at + N ≤ length s.now) × (to + N ≤ length d.old) }
     ensures { d.new ≡ with_row d.old to N (λ (x : ℕ). get_or s.now (at + x) 0) }
 {
-    d[to..to + N].copy_from_slice(&s[at..at + N]);
+    let mut numbers = [0; N];
+    for x in 0..N {
+        numbers[x] = s[at + x];
+    }
+    evc_lanes::put(d, to, &numbers);
 }
 
 pub fn copy_row(s: &[u16], n: usize, d: &mut [u16], to: usize)
@@ -28,6 +31,8 @@ pub fn copy_row(s: &[u16], n: usize, d: &mut [u16], to: usize)
     match n {
         2 => copy::<2>(s, 0, d, to),
         4 => copy::<4>(s, 0, d, to),
+        8 => copy::<8>(s, 0, d, to),
+        // Not a counted loop, of which the optimizer makes a call of the C library for each row.
         _ => {
             let mut x = 0;
             while x + 8 <= n {

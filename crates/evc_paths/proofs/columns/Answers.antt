@@ -1,5 +1,6 @@
 -- `evc_paths::columns` meets its contract. Assumes nothing.
 use mathlib.Core.Path.{◌∙◌}
+use native.Mathlib.Omega.{arith}
 use Rattle.evc_paths.proofs.Paths.{lanes, lanes_rows, lanes_room, first_asks, second_asks, second_done}
 use Rattle.evc_paths.proofs.columns.Goals as goal
 
@@ -19,7 +20,7 @@ sample_block-requires-2 c =
     let r = lanes_rows a.n a.h a.w _ _ b p.1 c.requires.w_value.0 c.select-lanes.ensures c.select-width.ensures in
     rw c.filter_of-second.ensures
     (second_asks a.t a.s.now a.m.now a.at a.stride a.n a.h a.dx p.4 c.requires.w_value.1 p.1 p.6 _ _ _ c.rows_more.ensures c.filter_of-first.ensures
-    c.sample_block.ensures _ _ r.0 r.1 a.pred.now a.to _ a.dy _ p.5 c.unit-one.ensures
+    c.sample_block.ensures _ _ r.0 r.1 a.pred.now a.to _ _ _ (let l = p.5 in omega arith) c.unit-one.ensures
     (lanes_room a.n a.h a.w _ _ b p.1 c.requires.w_value.0 c.select-lanes.ensures c.select-width.ensures a.to _ c.requires.t_in_bounds.1))
 
 pub returns : goal.returns

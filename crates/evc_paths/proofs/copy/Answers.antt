@@ -1,7 +1,11 @@
 -- `evc_paths::copy` meets its contract. Assumes nothing.
+use mathlib.Core.Path.{◌∙◌}
 use native.Mathlib.Omega.{arith}
-use Rattle.evc_paths.proofs.Paths.{part_copied}
+use Rattle.evc_int.proofs.Lists.{with_row-ext}
 use Rattle.evc_paths.proofs.copy.Goals as goal
 
 pub returns : goal.returns
-returns g c = part_copied _ _ _ _ _ _ _ _ (omega arith) (omega arith) c.requires.1 c.requires.0 c.copy_from_slice.ensures.after
+returns g c =
+    let i = c.loop-x.invariant in
+    let t = c.loop-x-test.false in
+    c.put.ensures ∙ with_row-ext _ _ _ _ _ (λ x l. i.2 x (omega arith))
