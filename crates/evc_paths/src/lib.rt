@@ -100,7 +100,8 @@ pub fn evc_mc_one(
         evc_blocks::sample_block::<Single>(s, from, w, h, f, pred, to, 1);
         return;
     }
-    // Called at two places, the loop over the rows is not built into this function, where it has 5 additions more: a block of 64 by 64 takes a tenth longer.
+    // Called at two places, the loop over the rows is not built into this function, where it has 5 additions more:
+    // a block of 64 by 64 takes up to a tenth longer.
     if w == 8 {
         evc_blocks::sample_rows::<Single, 8>(s, from, h, f, pred, to, 1);
         return;
