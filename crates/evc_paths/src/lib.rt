@@ -31,7 +31,6 @@ pub fn copy_row(s: &[u16], n: usize, d: &mut [u16], to: usize)
     match n {
         2 => copy::<2>(s, 0, d, to),
         4 => copy::<4>(s, 0, d, to),
-        8 => copy::<8>(s, 0, d, to),
         // Not a counted loop, of which the optimizer makes a call of the C library for each row.
         _ => {
             let mut x = 0;
