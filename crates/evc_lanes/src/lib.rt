@@ -17,7 +17,13 @@ pub fn put<const N: usize>(d: &mut [u16], to: usize, numbers: &[u16; N])
 }
 
 // N samples of a stage: all of them are made before one is written, so that they are one vector.
-pub fn sample_row<S: Stage, const N: usize>(s: &[u16], at: usize, f: Filter, d: &mut [u16], to: usize)
+pub fn sample_row<S: Stage, const N: usize>(
+    s: &[u16],
+    at: usize,
+    f: Filter,
+    d: &mut [u16],
+    to: usize,
+)
     requires { Row S.most N s.now at f.offsets f.taps × (to + N ≤ length d.old) }
     ensures { d.new ≡ with_row d.old to N (λ (x : ℕ). S.value s.now (at + x) f.offsets f.taps) }
 {
