@@ -1,258 +1,59 @@
 #![tactic(auto)]
 
-ghost use Rattle.std.specs.Prelude.{◌≡◌, true, ◌⊎◌, ℕ, ◌+◌, ◌*◌, ◌<◌, ◌≤◌, length};
+ghost use Rattle.std.specs.Prelude.{◌≡◌, true, ℕ, ◌+◌, ◌*◌, ◌<◌, ◌≤◌, length};
 ghost use Rattle.evc_int.specs.Lists.{with_block};
-ghost use Rattle.evc_filter.specs.Inner.{first_at, single_at, second_at};
 ghost use Rattle.evc_lanes.specs.Inner.{is_row_width};
 ghost use Rattle.evc_blocks.specs.Inner.{Rows};
 
-use evc_filter::{Offsets, Taps};
+use evc_filter::{Filter, Stage};
 
-// The blocks of each stage, by their width.
+// Where rows lie in a slice: the place of the first one, and how far apart they are.
+#[derive(Clone, Copy)]
+pub struct Layout {
+    pub at: usize,
+    pub stride: usize,
+}
+
+// Rows of N samples of a stage.
 //
 // `one` is 1: where rows lie one after the other, a step that the optimizer does not know keeps it from widening the loop over the rows,
 // which makes it slower than the Rust.
-
-fn first8_rows(
+pub fn sample_rows<S: Stage, const N: usize>(
     s: &[u16],
-    at: usize,
-    stride: usize,
+    from: Layout,
     h: usize,
-    o: Offsets,
-    taps: Taps,
+    f: Filter,
     d: &mut [u16],
-    to: usize,
-    width: usize,
+    to: Layout,
     one: usize,
 )
-    requires { Rows 1023 8 stride h s.now at o taps × (to + h * width + 8 ≤ length d.old + width) × (one ≡ 1) }
-    ensures { d.new ≡ with_block d.old to width 8 h (λ (y x : ℕ). first_at s.now (at + y * stride + x) o taps) }
+    requires { Rows S.most N from.stride h s.now from.at f.offsets f.taps × (to.at + h * to.stride + N ≤ length d.old + to.stride) × (one ≡ 1) }
+    ensures { d.new ≡ with_block d.old to.at to.stride N h (λ (y x : ℕ). S.value s.now (from.at + y * from.stride + x) f.offsets f.taps) }
 {
     let mut y = 0;
     while y < h {
-        evc_lanes::first8(s, at + y * stride, o, taps, d, to + y * width);
+        evc_lanes::sample_row::<S, N>(&*s, from.at + y * from.stride, f, d, to.at + y * to.stride);
         y += one;
     }
 }
 
-fn first4_rows(
+// A block of 2, 4 or 8 columns. By ranges: with a width that the optimizer knows it widens the loop over the rows.
+pub fn sample_block<S: Stage>(
     s: &[u16],
-    at: usize,
-    stride: usize,
-    h: usize,
-    o: Offsets,
-    taps: Taps,
-    d: &mut [u16],
-    to: usize,
-    width: usize,
-    one: usize,
-)
-    requires { Rows 1023 4 stride h s.now at o taps × (to + h * width + 4 ≤ length d.old + width) × (one ≡ 1) }
-    ensures { d.new ≡ with_block d.old to width 4 h (λ (y x : ℕ). first_at s.now (at + y * stride + x) o taps) }
-{
-    let mut y = 0;
-    while y < h {
-        evc_lanes::first4(s, at + y * stride, o, taps, d, to + y * width);
-        y += one;
-    }
-}
-
-fn first2_rows(
-    s: &[u16],
-    at: usize,
-    stride: usize,
-    h: usize,
-    o: Offsets,
-    taps: Taps,
-    d: &mut [u16],
-    to: usize,
-    width: usize,
-    one: usize,
-)
-    requires { Rows 1023 2 stride h s.now at o taps × (to + h * width + 2 ≤ length d.old + width) × (one ≡ 1) }
-    ensures { d.new ≡ with_block d.old to width 2 h (λ (y x : ℕ). first_at s.now (at + y * stride + x) o taps) }
-{
-    let mut y = 0;
-    while y < h {
-        evc_lanes::first2(s, at + y * stride, o, taps, d, to + y * width);
-        y += one;
-    }
-}
-
-pub fn first_block(
-    s: &[u16],
-    at: usize,
-    stride: usize,
+    from: Layout,
     n: usize,
     h: usize,
-    o: Offsets,
-    taps: Taps,
+    f: Filter,
     d: &mut [u16],
-    to: usize,
-    width: usize,
+    to: Layout,
     one: usize,
 )
-    requires { Rows 1023 n stride h s.now at o taps × (to + h * width + n ≤ length d.old + width) × (one ≡ 1) × (is_row_width n ≡ true) × (n ≤ 8) }
-    ensures { d.new ≡ with_block d.old to width n h (λ (y x : ℕ). first_at s.now (at + y * stride + x) o taps) }
+    requires { Rows S.most n from.stride h s.now from.at f.offsets f.taps × (to.at + h * to.stride + n ≤ length d.old + to.stride) × (one ≡ 1) × (is_row_width n ≡ true) × (n ≤ 8) }
+    ensures { d.new ≡ with_block d.old to.at to.stride n h (λ (y x : ℕ). S.value s.now (from.at + y * from.stride + x) f.offsets f.taps) }
 {
-    if n == 4 {
-        first4_rows(s, at, stride, h, o, taps, d, to, width, one);
-        return;
+    match n {
+        0..4 => sample_rows::<S, 2>(s, from, h, f, d, to, one),
+        4..8 => sample_rows::<S, 4>(s, from, h, f, d, to, one),
+        _ => sample_rows::<S, 8>(s, from, h, f, d, to, one),
     }
-    if n == 2 {
-        first2_rows(s, at, stride, h, o, taps, d, to, width, one);
-        return;
-    }
-    first8_rows(s, at, stride, h, o, taps, d, to, width, one);
-}
-
-pub fn single8_rows(
-    s: &[u16],
-    at: usize,
-    stride: usize,
-    h: usize,
-    o: Offsets,
-    taps: Taps,
-    d: &mut [u16],
-    to: usize,
-    width: usize,
-)
-    requires { Rows 1023 8 stride h s.now at o taps × (to + h * width + 8 ≤ length d.old + width) }
-    ensures { d.new ≡ with_block d.old to width 8 h (λ (y x : ℕ). single_at s.now (at + y * stride + x) o taps) }
-{
-    let mut y = 0;
-    while y < h {
-        evc_lanes::single8(&*s, at + y * stride, o, taps, d, to + y * width);
-        y += 1;
-    }
-}
-
-fn single4_rows(
-    s: &[u16],
-    at: usize,
-    stride: usize,
-    h: usize,
-    o: Offsets,
-    taps: Taps,
-    d: &mut [u16],
-    to: usize,
-    width: usize,
-)
-    requires { Rows 1023 4 stride h s.now at o taps × (to + h * width + 4 ≤ length d.old + width) }
-    ensures { d.new ≡ with_block d.old to width 4 h (λ (y x : ℕ). single_at s.now (at + y * stride + x) o taps) }
-{
-    let mut y = 0;
-    while y < h {
-        evc_lanes::single4(s, at + y * stride, o, taps, d, to + y * width);
-        y += 1;
-    }
-}
-
-fn single2_rows(
-    s: &[u16],
-    at: usize,
-    stride: usize,
-    h: usize,
-    o: Offsets,
-    taps: Taps,
-    d: &mut [u16],
-    to: usize,
-    width: usize,
-)
-    requires { Rows 1023 2 stride h s.now at o taps × (to + h * width + 2 ≤ length d.old + width) }
-    ensures { d.new ≡ with_block d.old to width 2 h (λ (y x : ℕ). single_at s.now (at + y * stride + x) o taps) }
-{
-    let mut y = 0;
-    while y < h {
-        evc_lanes::single2(s, at + y * stride, o, taps, d, to + y * width);
-        y += 1;
-    }
-}
-
-// A block of 4 or 2 columns, its rows one after the other. Not `n == 4`: with a width that the optimizer knows it widens the loop over the rows.
-pub fn single_narrow(
-    s: &[u16],
-    at: usize,
-    stride: usize,
-    n: usize,
-    h: usize,
-    o: Offsets,
-    taps: Taps,
-    d: &mut [u16],
-)
-    requires { Rows 1023 n stride h s.now at o taps × (h * n ≤ length d.old) × (is_row_width n ≡ true) × (n < 8) }
-    ensures { d.new ≡ with_block d.old 0 n n h (λ (y x : ℕ). single_at s.now (at + y * stride + x) o taps) }
-{
-    if n > 2 {
-        single4_rows(s, at, stride, h, o, taps, d, 0, n);
-        return;
-    }
-    single2_rows(s, at, stride, h, o, taps, d, 0, n);
-}
-
-fn second8_rows(
-    s: &[u16],
-    at: usize,
-    stride: usize,
-    h: usize,
-    o: Offsets,
-    taps: Taps,
-    d: &mut [u16],
-    to: usize,
-    width: usize,
-    one: usize,
-)
-    requires { Rows 26603 8 stride h s.now at o taps × (to + h * width + 8 ≤ length d.old + width) × (one ≡ 1) }
-    ensures { d.new ≡ with_block d.old to width 8 h (λ (y x : ℕ). second_at s.now (at + y * stride + x) o taps) }
-{
-    let mut y = 0;
-    while y < h {
-        evc_lanes::second8(s, at + y * stride, o, taps, d, to + y * width);
-        y += one;
-    }
-}
-
-fn second4_rows(
-    s: &[u16],
-    at: usize,
-    stride: usize,
-    h: usize,
-    o: Offsets,
-    taps: Taps,
-    d: &mut [u16],
-    to: usize,
-    width: usize,
-    one: usize,
-)
-    requires { Rows 26603 4 stride h s.now at o taps × (to + h * width + 4 ≤ length d.old + width) × (one ≡ 1) }
-    ensures { d.new ≡ with_block d.old to width 4 h (λ (y x : ℕ). second_at s.now (at + y * stride + x) o taps) }
-{
-    let mut y = 0;
-    while y < h {
-        evc_lanes::second4(s, at + y * stride, o, taps, d, to + y * width);
-        y += one;
-    }
-}
-
-pub fn second_block(
-    s: &[u16],
-    at: usize,
-    stride: usize,
-    n: usize,
-    h: usize,
-    o: Offsets,
-    taps: Taps,
-    d: &mut [u16],
-    to: usize,
-    width: usize,
-    one: usize,
-)
-    requires { Rows 26603 n stride h s.now at o taps × (to + h * width + n ≤ length d.old + width) × (one ≡ 1) × ((n ≡ 4) ⊎ (n ≡ 8)) }
-    ensures { d.new ≡ with_block d.old to width n h (λ (y x : ℕ). second_at s.now (at + y * stride + x) o taps) }
-{
-    if n == 4 {
-        second4_rows(s, at, stride, h, o, taps, d, to, width, one);
-        return;
-    }
-    second8_rows(s, at, stride, h, o, taps, d, to, width, one);
 }

@@ -1,8 +1,8 @@
 #![tactic(auto)]
 
-ghost use Rattle.std.specs.Prelude.{◌≡◌, ◌+◌, ◌-◌, ◌*◌, ◌<◌, ◌≤◌, min, length, get_or, cond, ltb};
+ghost use Rattle.std.specs.Prelude.{List, ℕ, ◌≡◌, ◌+◌, ◌-◌, ◌*◌, ◌<◌, ◌≤◌, min, length, get_or, cond, ltb};
 ghost use Rattle.evc_filter.specs.Filter.{phases};
-ghost use Rattle.evc_filter.specs.Inner.{taps_of, offsets_of, Small, first_sum, whole_sum, second_sum, finished, Under, first_at, single_at, second_at};
+ghost use Rattle.evc_filter.specs.Inner.{taps_of, offsets_of, Small, first_sum, whole_sum, second_sum, finished, Ordered, Bounded, Under, first_at, single_at, second_at};
 
 use evc_plane::PlaneType;
 
@@ -22,6 +22,7 @@ fn sizes(a: u16, b: u16, c: u16, d: u16) -> Taps
 }
 
 // By row: those of luma, then those of chroma. One match for both, which becomes a look-up; one in a constant array copies the array first.
+#[tactic(auto, unfolding(crate::specs::Inner::taps_of))]
 fn taps_at(row: usize) -> Taps
     requires { row < 12 }
     ensures { result ≡ cond (ltb row 4) (taps_of PlaneType.Y row) (taps_of PlaneType.UV (row - 4)) }
@@ -66,10 +67,8 @@ fn multiple(n: u16, x: u16) -> u16
     ensures { result ≡ n * x }
 {
     let mut sum = 0;
-    let mut i = 0;
-    while i < n {
+    for _ in 0..n {
         sum += x;
-        i += 1;
     }
     sum
 }
@@ -86,61 +85,70 @@ fn times(t: u16, x: u16, t_max: u16, x_max: u16) -> u16
     (((high << 2) + middle) << 2) + low
 }
 
+// The numbers under the taps: p is the sum of the outer pair and q of the inner one, x and y are the two in the middle.
+#[derive(Clone, Copy)]
+struct Numbers {
+    p: u16,
+    q: u16,
+    x: u16,
+    y: u16,
+}
+
 // The tap sum of samples, >> 2, with 5120 and the rounding more.
-fn rounded_sum(taps: Taps, p: u16, q: u16, x: u16, y: u16, rounding: u16) -> u16
+fn rounded_sum(taps: Taps, n: Numbers, rounding: u16) -> u16
     requires small { Small taps }
-    requires p_bound { (p ≤ 2046) × (q ≤ 2046) × (x ≤ 1023) × (y ≤ 1023) × (rounding ≤ 8) }
-    ensures { (result ≡ first_sum taps p q x y + rounding) × (result ≤ 26603 + rounding) }
+    requires p_bound { (n.p ≤ 2046) × (n.q ≤ 2046) × (n.x ≤ 1023) × (n.y ≤ 1023) × (rounding ≤ 8) }
+    ensures { (result ≡ first_sum taps n.p n.q n.x n.y + rounding) × (result ≤ 26603 + rounding) }
 {
-    (((times(taps.a, p, 2, 2046) + (20480 + multiple(4, rounding)) - times(taps.b, q, 10, 2046))
+    (((times(taps.a, n.p, 2, 2046) + (20480 + multiple(4, rounding)) - times(taps.b, n.q, 10, 2046))
         >> 1)
-        + times(taps.c, x, 32, 1023)
-        + times(taps.d, y, 29, 1023))
+        + times(taps.c, n.x, 32, 1023)
+        + times(taps.d, n.y, 29, 1023))
         >> 1
 }
 
 // The first of two stages, which does not round. A single direction does: (sum + 32) >> 6 is ((sum >> 2) + 8) >> 4.
-fn first_sum(taps: Taps, p: u16, q: u16, x: u16, y: u16) -> u16
+fn first_sum(taps: Taps, n: Numbers) -> u16
     requires small { Small taps }
-    requires p_bound { (p ≤ 2046) × (q ≤ 2046) × (x ≤ 1023) × (y ≤ 1023) }
-    ensures { (result ≡ first_sum taps p q x y) × (result ≤ 26603) }
+    requires p_bound { (n.p ≤ 2046) × (n.q ≤ 2046) × (n.x ≤ 1023) × (n.y ≤ 1023) }
+    ensures { (result ≡ first_sum taps n.p n.q n.x n.y) × (result ≤ 26603) }
 {
-    rounded_sum(taps, p, q, x, y, 0)
+    rounded_sum(taps, n, 0)
 }
 
-fn whole_sum(taps: Taps, p: u16, q: u16, x: u16, y: u16, bias: u16) -> u16
+fn whole_sum(taps: Taps, n: Numbers, bias: u16) -> u16
     requires small { Small taps }
-    requires p_bound { (p ≤ 831) × (q ≤ 831) × (x ≤ 415) × (y ≤ 415) × (10 * q ≤ bias) × (bias ≤ 8310) }
-    ensures { (result ≡ whole_sum taps p q x y bias) × (result ≤ 43172) }
+    requires p_bound { (n.p ≤ 831) × (n.q ≤ 831) × (n.x ≤ 415) × (n.y ≤ 415) × (10 * n.q ≤ bias) × (bias ≤ 8310) }
+    ensures { (result ≡ whole_sum taps n.p n.q n.x n.y bias) × (result ≤ 43172) }
 {
-    times(taps.a, p, 2, 831)
-        + (times(taps.c, x, 32, 415) << 1)
-        + (times(taps.d, y, 29, 415) << 1)
+    times(taps.a, n.p, 2, 831)
+        + (times(taps.c, n.x, 32, 415) << 1)
+        + (times(taps.d, n.y, 29, 415) << 1)
         + bias
-        - times(taps.b, q, 10, 831)
+        - times(taps.b, n.q, 10, 831)
 }
 
 // The tap sum of the first stage's numbers, >> 6 and biased: each number is split at 6 bits, so that both sums fit 16.
-fn second_sum(taps: Taps, p: u16, q: u16, x: u16, y: u16) -> u16
+fn second_sum(taps: Taps, n: Numbers) -> u16
     requires small { Small taps }
-    requires p_bound { (p ≤ 53206) × (q ≤ 53206) × (x ≤ 26603) × (y ≤ 26603) }
-    ensures { result ≡ second_sum taps p q x y }
+    requires p_bound { (n.p ≤ 53206) × (n.q ≤ 53206) × (n.x ≤ 26603) × (n.y ≤ 26603) }
+    ensures { result ≡ second_sum taps n.p n.q n.x n.y }
 {
-    let high = whole_sum(taps, p >> 6, q >> 6, x >> 6, y >> 6, 8310);
-    let low = whole_sum(taps, p & 63, q & 63, x & 63, y & 63, 1152);
+    let above = Numbers {
+        p: n.p >> 6,
+        q: n.q >> 6,
+        x: n.x >> 6,
+        y: n.y >> 6,
+    };
+    let below = Numbers {
+        p: n.p & 63,
+        q: n.q & 63,
+        x: n.x & 63,
+        y: n.y & 63,
+    };
+    let high = whole_sum(taps, above, 8310);
+    let low = whole_sum(taps, below, 1152);
     high + (low >> 6)
-}
-
-fn saturating_sub(a: u16, b: u16) -> u16
-    ensures { result ≡ a - b }
-{
-    if a < b { 0 } else { a - b }
-}
-
-fn saturating_add(a: u16, b: u16) -> u16
-    ensures { result ≡ min (a + b) 65535 }
-{
-    if a > 65535 - b { 65535 } else { a + b }
 }
 
 // Rounded down by 4 bits, less the bias, held to 0..1023. Both ends by a sum that is held to 16 bits: two instructions, where a minimum of four lanes takes three.
@@ -148,7 +156,7 @@ fn finish(n: u16, low: u16) -> u16
     requires { low ≤ 64512 }
     ensures { result ≡ finished low n }
 {
-    saturating_sub(saturating_add(n >> 4, 64512 - low), 64512)
+    (n >> 4).saturating_add(64512 - low).saturating_sub(64512)
 }
 
 // ---- at a place
@@ -185,60 +193,90 @@ pub fn offsets_of(t: PlaneType, step: usize) -> Offsets
     }
 }
 
-fn sample(s: &[u16], i: usize) -> u16
-    requires { i < length s.now }
-    ensures { result ≡ get_or s.now i 0 }
+fn under(s: &[u16], at: usize, o: Offsets) -> Numbers
+    requires within { at + o.p1 < length s.now }
+    requires ordered { Ordered o }
+    requires bounded { Bounded 26603 s.now at o }
+    ensures { result ≡ record { p = get_or s.now at 0 + get_or s.now (at + o.p1) 0; q = get_or s.now (at + o.q0) 0 + get_or s.now (at + o.q1) 0; x = get_or s.now (at + o.x) 0; y = get_or s.now (at + o.y) 0 } }
 {
-    s[i]
+    Numbers {
+        p: s[at] + s[at + o.p1],
+        q: s[at + o.q0] + s[at + o.q1],
+        x: s[at + o.x],
+        y: s[at + o.y],
+    }
 }
 
-fn pair_sum(s: &[u16], i: usize, j: usize) -> u16
-    requires { (i < length s.now) × (j < length s.now) × (get_or s.now i 0 ≤ 26603) × (get_or s.now j 0 ≤ 26603) }
-    ensures { result ≡ get_or s.now i 0 + get_or s.now j 0 }
-{
-    s[i] + s[j]
+// Where the samples under the taps lie, and the taps' sizes.
+#[derive(Clone, Copy)]
+pub struct Filter {
+    pub offsets: Offsets,
+    pub taps: Taps,
 }
 
-// The first of two stages, a single direction, and the second of two stages.
-
-pub fn first_at(s: &[u16], at: usize, o: Offsets, taps: Taps) -> u16
-    requires { Under 1023 s.now at o taps }
-    ensures { result ≡ first_at s.now at o taps }
+pub fn filter_of(t: PlaneType, step: usize, phase: usize) -> Filter
+    requires { (step ≤ 65535) × (phase < phases t) }
+    ensures { result ≡ record { offsets = offsets_of t step; taps = taps_of t phase } }
 {
-    first_sum(
-        taps,
-        pair_sum(s, at, at + o.p1),
-        pair_sum(s, at + o.q0, at + o.q1),
-        sample(s, at + o.x),
-        sample(s, at + o.y),
-    )
+    Filter {
+        offsets: offsets_of(t, step),
+        taps: taps_of(t, phase),
+    }
 }
 
-pub fn single_at(s: &[u16], at: usize, o: Offsets, taps: Taps) -> u16
-    requires { Under 1023 s.now at o taps }
-    ensures { result ≡ single_at s.now at o taps }
-{
-    let sum = rounded_sum(
-        taps,
-        pair_sum(s, at, at + o.p1),
-        pair_sum(s, at + o.q0, at + o.q1),
-        sample(s, at + o.x),
-        sample(s, at + o.y),
-        8,
-    );
-    finish(sum, 320)
+// What a stage of the interpolation makes of the samples under a filter.
+pub trait Stage {
+    ghost use Rattle.evc_filter.specs.declared.Offsets.{Offsets};
+    ghost use Rattle.evc_filter.specs.declared.Taps.{Taps};
+
+    // No sample under the taps is above it.
+    ghost most: { ℕ };
+
+    ghost value: { List ℕ → ℕ → Offsets → Taps → ℕ };
+
+    fn sample(s: &[u16], at: usize, f: Filter) -> u16
+        requires { Under most s.now at f.offsets f.taps }
+        ensures { result ≡ value s.now at f.offsets f.taps };
 }
 
-pub fn second_at(s: &[u16], at: usize, o: Offsets, taps: Taps) -> u16
-    requires { Under 26603 s.now at o taps }
-    ensures { result ≡ second_at s.now at o taps }
-{
-    let sum = second_sum(
-        taps,
-        pair_sum(s, at, at + o.p1),
-        pair_sum(s, at + o.q0, at + o.q1),
-        sample(s, at + o.x),
-        sample(s, at + o.y),
-    );
-    finish(sum, 840)
+// The first of two stages.
+pub struct First;
+
+impl Stage for First {
+    ghost most = { 1023 };
+
+    ghost value = { first_at };
+
+    #[tactic(auto, unfolding(crate::specs::Inner::first_at))]
+    fn sample(s: &[u16], at: usize, f: Filter) -> u16 {
+        first_sum(f.taps, under(s, at, f.offsets))
+    }
+}
+
+// The only stage of a single direction.
+pub struct Single;
+
+impl Stage for Single {
+    ghost most = { 1023 };
+
+    ghost value = { single_at };
+
+    #[tactic(auto, unfolding(crate::specs::Inner::single_at, crate::specs::Inner::first_at))]
+    fn sample(s: &[u16], at: usize, f: Filter) -> u16 {
+        finish(rounded_sum(f.taps, under(s, at, f.offsets), 8), 320)
+    }
+}
+
+// The second of two stages.
+pub struct Second;
+
+impl Stage for Second {
+    ghost most = { 26603 };
+
+    ghost value = { second_at };
+
+    #[tactic(auto, unfolding(crate::specs::Inner::second_at))]
+    fn sample(s: &[u16], at: usize, f: Filter) -> u16 {
+        finish(second_sum(f.taps, under(s, at, f.offsets)), 840)
+    }
 }

@@ -1,6 +1,6 @@
 -- What the paths ask of evc_blocks, and what these give: the samples under the taps lie in the window. Assumes nothing.
 use Prim.Native.Nat.{ℕ, zero, suc, ◌+◌, ◌*◌, ◌/◌, ◌%◌, ◌<◌, ◌≤◌}
-use mathlib.Core.Logic.{◌⊎◌, inl, inr}
+use mathlib.Core.Logic.{◌⊎◌, inl, inr, ⊎_elim}
 use mathlib.Core.Bool.{Bool, true, false, cond}
 use mathlib.Core.List.{List, [], ◌∷◌}
 use mathlib.Core.Path.{◌≡◌, refl, sym, ap, ap₂, subst, ◌∙◌}
@@ -21,8 +21,7 @@ use Rattle.evc_blocks.specs.Inner.{Rows}
 use Rattle.evc_plane.specs.Planes.{side_of}
 use Rattle.evc_plane.specs.declared.PlaneType.{PlaneType}
 use Rattle.evc_plane.specs.declared.PlaneType.TheVariants.{Y, UV}
-use Rattle.evc_filter.specs.declared.Offsets.{Offsets}
-use Rattle.evc_filter.specs.declared.Taps.{Taps}
+use Rattle.evc_filter.specs.declared.Filter.{Filter}
 use Rattle.evc_paths.specs.Inner.{Within}
 
 abbrev pub Near : ℕ → PlaneType → List ℕ → ℕ → ℕ → Type 0
@@ -58,6 +57,12 @@ pub last_place_lem : (k : PlaneType) (step : ℕ) → (offsets_of k step).p1 ≡
 last_place_lem Y step = refl
 last_place_lem UV step = refl
 
+abbrev pub filter : PlaneType → ℕ → ℕ → Filter
+filter k step phase = record { offsets = offsets_of k step; taps = taps_of k phase }
+
+pub by_step : (k : PlaneType) (phase : ℕ) {i step : ℕ} {f : Filter} → f ≡ filter k i phase → i ≡ step → f ≡ filter k step phase
+by_step k phase p e = p ∙ ap (λ (i : ℕ). filter k i phase) e
+
 -- in a window, across and down
 module _ (k : PlaneType) (s : List ℕ) (at stride w h : ℕ) where
   pub near_across : Within s at stride (w + reach k) h → (y x : ℕ) → y < h → x < w → Near 1023 k s (at + y * stride + x) 1
@@ -89,12 +94,12 @@ module _ (k : PlaneType) (s : List ℕ) (at stride w h : ℕ) (across : Bool) (q
       go false l = omega (arith, add-mul h (reach k) stride)
 
   -- n columns from column c on, whose first sample is at i
-  pub single_asks : (phase c n i : ℕ) (d : List ℕ) (o : Offsets) (t : Taps) → o ≡ offsets_of k (step_of across stride) → t ≡ taps_of k phase → phase < phases k → c + n ≤ w → i ≡ at + c
+  pub single_asks : (phase c n i : ℕ) (d : List ℕ) (f : Filter) → f ≡ filter k (step_of across stride) phase → phase < phases k → c + n ≤ w → i ≡ at + c
       → at + (h + cond across 0 (reach k)) * stride + (w + cond across (reach k) 0) ≤ length s + stride → h * w ≤ length d
-      → Rows 1023 n stride h s i o t × (c + h * w + n ≤ length d + w)
-  single_asks phase c n i d o t eo et l r e a b =
+      → Rows 1023 n stride h s i f.offsets f.taps × (c + h * w + n ≤ length d + w)
+  single_asks phase c n i d f ef l r e a b =
       let g = ends a in
-      rw (eo, et, e) (
+      rw (ef, e) (
         record {
           within = omega (arith, last_place_lem k (step_of across stride));
           ordered = offsets_ordered k (step_of across stride);
@@ -104,22 +109,17 @@ module _ (k : PlaneType) (s : List ℕ) (at stride w h : ℕ) (across : Bool) (q
         omega arith,
       )
 
-  pub single_gives : (phase : ℕ) → phase < phases k → (d : List ℕ) (o : Offsets) (t : Taps) → o ≡ offsets_of k (step_of across stride) → t ≡ taps_of k phase
-      → with_block d 0 w w h (λ (y x : ℕ). single_at s (at + y * stride + x) o t) ≡ with_block d 0 w w h (λ (y x : ℕ). interpolated k phase s (at + y * stride + x) (step_of across stride))
-  single_gives phase l d o t eo et =
+  pub single_gives : (phase : ℕ) → phase < phases k → (d : List ℕ) (f : Filter) → f ≡ filter k (step_of across stride) phase
+      → with_block d 0 w w h (λ (y x : ℕ). single_at s (at + y * stride + x) f.offsets f.taps) ≡ with_block d 0 w w h (λ (y x : ℕ). interpolated k phase s (at + y * stride + x) (step_of across stride))
+  single_gives phase l d f ef =
       with_block-ext d 0 w w h _ _
-      (λ y x ly lx. ap₂ (λ (o : Offsets) (t : Taps). single_at s (at + y * stride + x) o t) eo et ∙ single_is k phase l s (at + y * stride + x) (step_of across stride) (bounded 1023 k s (at + y * stride + x) (step_of across stride) (near y x ly lx)))
+      (λ y x ly lx. ap (λ (f : Filter). single_at s (at + y * stride + x) f.offsets f.taps) ef ∙ single_is k phase l s (at + y * stride + x) (step_of across stride) (bounded 1023 k s (at + y * stride + x) (step_of across stride) (near y x ly lx)))
 
 -- a row of a window, read from its place on
 pub row_sample : (i : ℕ) (s : List ℕ) (x : ℕ) → get_or (drop i s) x 0 ≡ get_or s (i + x) 0
 row_sample zero s x = ap (λ (i : ℕ). get_or s i 0) (omega arith)
 row_sample (suc i) [] x = refl
 row_sample (suc i) (a ∷ s) x = let e : suc (i + x) ≡ suc i + x = omega arith in row_sample i s x ∙ ap (λ (j : ℕ). get_or (a ∷ s) j 0) e
-
--- a row copied whole as four or two samples, and eight samples more
-pub copied : (d v s : List ℕ) (to n m : ℕ) → n ≡ m → v ≡ with_row d to m (λ (x : ℕ). get_or s (0 + x) 0) → v ≡ with_row d to n (λ (x : ℕ). get_or s x 0)
-copied d v s to n m e p =
-    p ∙ with_row-ext d to m _ _ (λ x lx. ap (λ (i : ℕ). get_or s i 0) (omega arith)) ∙ ap (λ (i : ℕ). with_row d to i (λ (x : ℕ). get_or s x 0)) (sym e)
 
 pub copied_more : (d₀ d v s : List ℕ) (to x : ℕ) → d ≡ with_row d₀ to x (λ (i : ℕ). get_or s i 0) → v ≡ with_row d (to + x) 8 (λ (i : ℕ). get_or s (x + i) 0) → v ≡ with_row d₀ to (x + 8) (λ (i : ℕ). get_or s i 0)
 copied_more d₀ d v s to x p q = q ∙ ap (λ (l : List ℕ). with_row l (to + x) 8 (λ (i : ℕ). get_or s (x + i) 0)) p ∙ with_row-join d₀ to x 8 (λ (i : ℕ). get_or s i 0)
@@ -151,6 +151,9 @@ lanes n h en ln eh =
   where
     many : (n h : ℕ) → 8 ≤ h * n → h * n % 8 ≡ 0 → (n ≡ 8 → h * n / 8 ≡ h) → Lanes n h
     many n h l d f = let e : lanes_of n h ≡ 8 = ap (λ (t : Bool). cond t 4 8) (le-ltb (h * n) 8 l) in record { four_or_eight = inr e; rows = rw e (omega arith); whole = λ g. (e, rw e (f g)) }
+
+lanes_wide : {l : ℕ} → (l ≡ 4) ⊎ (l ≡ 8) → (is_row_width l ≡ true) × (l ≤ 8)
+lanes_wide f = ⊎_elim (λ e. rw e (refl, omega arith)) (λ e. rw e (refl, omega arith)) f
 
 -- the block that they are
 pub gathered : (d : List ℕ) (to lanes rows n h : ℕ) (f : ℕ → ℕ) → rows * lanes ≡ h * n → with_block d to lanes lanes rows (λ (y x : ℕ). f (0 + y * lanes + x)) ≡ with_block d to n n h (λ (y x : ℕ). f (0 + y * n + x))
@@ -199,13 +202,13 @@ module _ (k : PlaneType) (s m : List ℕ) (at stride n h dx : ℕ) (dx-small : d
       rw e (record { within = omega (arith, last_place_lem k 1); ordered = offsets_ordered k 1; small = taps_small k dx dx-small; bounded = bound }, omega (arith, long), e1, w, ln)
 
   -- what m holds after the first stage
-  module _ (v : List ℕ) (r : ℕ) (o : Offsets) (t : Taps) (er : r ≡ reach k) (eo : o ≡ offsets_of k 1) (et : t ≡ taps_of k dx)
-      (p : v ≡ with_block m 0 n n (h + r) (λ (y x : ℕ). first_at s (at + y * stride + x) o t)) where
+  module _ (v : List ℕ) (r : ℕ) (f : Filter) (er : r ≡ reach k) (ef : f ≡ filter k 1 dx)
+      (p : v ≡ with_block m 0 n n (h + r) (λ (y x : ℕ). first_at s (at + y * stride + x) f.offsets f.taps)) where
     holds : (y x : ℕ) → y < h + reach k → x < n → get_or v (0 + y * n + x) 0 ≡ first_at s (at + y * stride + x) (offsets_of k 1) (taps_of k dx)
     holds y x ly lx =
         ap (λ (l : List ℕ). get_or l (0 + y * n + x) 0) p
         ∙ with_block-in 0 m 0 n n (h + r) _ y x (omega arith) lx (omega arith) (omega (arith, long, ap (λ (i : ℕ). (h + i) * n) er))
-        ∙ ap₂ (λ (o : Offsets) (t : Taps). first_at s (at + y * stride + x) o t) eo et
+        ∙ ap (λ (f : Filter). first_at s (at + y * stride + x) f.offsets f.taps) ef
 
     -- row y, and the j-th one further down
     further : (y x j : ℕ) → y < h → x < n → j ≤ reach k → get_or v (0 + y * n + x + j * n) 0 ≡ first_at s (at + y * stride + x + j * stride) (offsets_of k 1) (taps_of k dx)
@@ -236,8 +239,8 @@ module _ (k : PlaneType) (s m : List ℕ) (at stride n h dx : ℕ) (dx-small : d
 
     -- the second stage, over `rows` rows of `lanes` numbers
     pub second_asks : (lanes rows : ℕ) → rows * lanes ≡ h * n → (lanes ≡ 4) ⊎ (lanes ≡ 8) → (d : List ℕ) (to width dy one : ℕ) → dy < phases k → one ≡ 1 → to + rows * width + lanes ≤ length d + width
-        → Rows 26603 lanes lanes rows v 0 (offsets_of k n) (taps_of k dy) × (to + rows * width + lanes ≤ length d + width) × (one ≡ 1) × ((lanes ≡ 4) ⊎ (lanes ≡ 8))
-    second_asks lanes rows e f d to width dy one l e1 a =
+        → Rows 26603 lanes lanes rows v 0 (offsets_of k n) (taps_of k dy) × (to + rows * width + lanes ≤ length d + width) × (one ≡ 1) × (is_row_width lanes ≡ true) × (lanes ≤ 8)
+    second_asks lanes rows e lw d to width dy one l e1 a =
         let c : length v ≡ length m = ap length p ∙ length-with_block m 0 n n (h + r) _ in (
           record {
             within = omega (arith, last_place_lem k n, add-mul h (reach k) n, long);
@@ -247,42 +250,43 @@ module _ (k : PlaneType) (s m : List ℕ) (at stride n h dx : ℕ) (dx-small : d
           },
           a,
           e1,
-          f,
+          (lanes_wide lw).0,
+          (lanes_wide lw).1,
         )
 
     row_is : (y x j : ℕ) → y < h → x < n → j ≤ reach k → Is (row_stage k dx s (at + y * stride + x + j * stride)) (get_or v (0 + y * n + x + j * n) 0) 5120
     unfolding row_stage
     row_is y x j ly lx lj = rw (further y x j ly lx lj) (first_is k dx dx-small s (at + y * stride + x + j * stride) 1 (bound_at y x j ly lx lj))
 
-    second_gives : (d : List ℕ) (to w dy : ℕ) (u : Offsets) (z : Taps) → u ≡ offsets_of k n → z ≡ taps_of k dy → dy < phases k
-        → with_block d to w n h (λ (y x : ℕ). second_at v (0 + y * n + x) u z) ≡ with_block d to w n h (λ (y x : ℕ). interpolated_twice k dx dy s (at + y * stride + x) stride)
-    second_gives d to w dy u z eu ez l =
+    second_gives : (d : List ℕ) (to w dy : ℕ) (u : Filter) → u ≡ filter k n dy → dy < phases k
+        → with_block d to w n h (λ (y x : ℕ). second_at v (0 + y * n + x) u.offsets u.taps) ≡ with_block d to w n h (λ (y x : ℕ). interpolated_twice k dx dy s (at + y * stride + x) stride)
+    second_gives d to w dy u eu l =
         with_block-ext d to w n h _ _
-        (λ y x ly lx. ap₂ (λ (u : Offsets) (z : Taps). second_at v (0 + y * n + x) u z) eu ez ∙ second_is k dx dy l s v (at + y * stride + x) (0 + y * n + x) stride n (second_bound y x ly lx) (λ j lj. row_is y x j ly lx lj))
+        (λ y x ly lx. ap (λ (u : Filter). second_at v (0 + y * n + x) u.offsets u.taps) eu ∙ second_is k dx dy l s v (at + y * stride + x) (0 + y * n + x) stride n (second_bound y x ly lx) (λ j lj. row_is y x j ly lx lj))
 
     -- the same from the rows that the code has
-    pub second_done : (w lanes width : ℕ) → Lanes n h → (n < 8 → w ≡ n) → lanes ≡ lanes_of n h → width ≡ cond (ltb n 8) lanes w → (d : List ℕ) (to dy : ℕ) (u : Offsets) (z : Taps) → u ≡ offsets_of k n → z ≡ taps_of k dy → dy < phases k
-        → with_block d to width lanes (h * n / lanes) (λ (y x : ℕ). second_at v (0 + y * lanes + x) u z) ≡ with_block d to w n h (λ (y x : ℕ). interpolated_twice k dx dy s (at + y * stride + x) stride)
-    second_done w lanes width L narrow el ew d to dy u z eu ez l = lanes_give n h w lanes width L ln narrow el ew d to (λ (i : ℕ). second_at v i u z) ∙ second_gives d to w dy u z eu ez l
+    pub second_done : (w lanes width : ℕ) → Lanes n h → (n < 8 → w ≡ n) → lanes ≡ lanes_of n h → width ≡ cond (ltb n 8) lanes w → (d : List ℕ) (to dy : ℕ) (u : Filter) → u ≡ filter k n dy → dy < phases k
+        → with_block d to width lanes (h * n / lanes) (λ (y x : ℕ). second_at v (0 + y * lanes + x) u.offsets u.taps) ≡ with_block d to w n h (λ (y x : ℕ). interpolated_twice k dx dy s (at + y * stride + x) stride)
+    second_done w lanes width L narrow el ew d to dy u eu l = lanes_give n h w lanes width L ln narrow el ew d to (λ (i : ℕ). second_at v i u.offsets u.taps) ∙ second_gives d to w dy u eu l
 
 -- ---- a block by groups of eight columns
 
 pub part_within : (s : List ℕ) (at stride w r h c n : ℕ) → c + n ≤ w → Within s at stride (w + r) h → Within s (at + c) stride (n + r) h
 part_within s at stride w r h c n l q y x ly lx = subst (λ (i : ℕ). get_or s i 0 ≤ 1023) (omega arith) (q y (c + x) ly (omega arith))
 
-pub group_step : (f : ℕ → ℕ) (l l₀ v : List ℕ) (at stride w h c : ℕ) → c + 8 ≤ w
-    → l ≡ with_block l₀ 0 w c h (λ (y x : ℕ). f (at + y * stride + x)) → v ≡ with_block l c w 8 h (λ (y x : ℕ). f (at + c + y * stride + x))
-    → v ≡ with_block l₀ 0 w (c + 8) h (λ (y x : ℕ). f (at + y * stride + x))
-group_step f l l₀ v at stride w h c b p q =
-    columns_step l l₀ v w 8 h c _ _ b (λ y x. let e : at + c + y * stride + x ≡ at + y * stride + (c + x) = omega arith in ap f e) p q
+pub group_step : (f : ℕ → ℕ) (l l₀ v : List ℕ) (at stride w h n c e : ℕ) → c + n ≡ e → e ≤ w
+    → l ≡ with_block l₀ 0 w c h (λ (y x : ℕ). f (at + y * stride + x)) → v ≡ with_block l c w n h (λ (y x : ℕ). f (at + c + y * stride + x))
+    → v ≡ with_block l₀ 0 w e h (λ (y x : ℕ). f (at + y * stride + x))
+group_step f l l₀ v at stride w h n c e z b p q =
+    subst (λ (e : ℕ). e ≤ w → v ≡ with_block l₀ 0 w e h (λ (y x : ℕ). f (at + y * stride + x))) z (λ b. columns_step l l₀ v w n h c _ _ b (λ y x. let e : at + c + y * stride + x ≡ at + y * stride + (c + x) = omega arith in ap f e) p q) b
 
 -- a window has a row
 pub first_row_lem : (k : PlaneType) (h stride : ℕ) → stride ≤ (h + reach k) * stride
 first_row_lem Y h stride = omega (arith, row_fits {y = 0} {h = h + 5} stride (omega arith))
 first_row_lem UV h stride = omega (arith, row_fits {y = 0} {h = h + 3} stride (omega arith))
 
-pub full : (w cg : ℕ) → is_row_width w ≡ true → 8 ≤ w → cg % 8 ≡ 0 → w < cg + 8 → w ≤ cg
-full w cg e l m t = let d = (eights w e (λ f. absurd (omega arith)) (λ f. absurd (omega arith))).1 in omega arith
+pub eighths : (w : ℕ) → is_row_width w ≡ true → 8 ≤ w → 8 * (w / 8) ≡ w
+eighths w e l = let d = (eights w e (λ f. absurd (omega arith)) (λ f. absurd (omega arith))).1 in omega arith
 
 -- the first stage's numbers fit the array of a low block, and that of a plane's type
 pub low_fits : (k : PlaneType) (h : ℕ) → h ≤ 8 → (h + reach k) * 8 ≤ 104

@@ -1,10 +1,7 @@
--- `evc_filter::multiple` meets its contract. The invariant: the sum is x, i times. Assumes nothing.
-use Prim.Native.Nat.{◌-◌, ◌*◌, ◌≤◌}
+-- `evc_filter::multiple` meets its contract. The invariant: the sum is x, as many times as there were turns. Assumes nothing.
+use Prim.Native.Nat.{◌*◌, ◌≤◌}
 use mathlib.Core.Path.{◌≡◌}
 use Rattle.evc_filter.proofs.multiple.Given as goal
 
-abbrev pub invariant-loop-i : goal.invariant-loop-i
-invariant-loop-i l = (l.i ≤ l.n) × (l.sum ≡ l.i * l.x)
-
-abbrev pub decreases-loop-i : goal.decreases-loop-i
-decreases-loop-i l = l.n - l.i
+abbrev pub invariant-loop : goal.invariant-loop
+invariant-loop l = (l.counter ≤ l.n) × (l.sum ≡ l.counter * l.x)

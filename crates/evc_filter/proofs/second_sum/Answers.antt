@@ -9,7 +9,7 @@ mask : (n : ℕ) → bit_and n 63 ≡ n % 64
 mask n = and_mask n 6
 
 pub whole_sum-low-requires : goal.whole_sum-low-requires
-whole_sum-low-requires c = let s = c.args in rw (mask s.p, mask s.q, mask s.x, mask s.y) (search rules)
+whole_sum-low-requires c = let s = c.args.n in rw (mask s.p, mask s.q, mask s.x, mask s.y) (search rules)
 
 pub returns : goal.returns
-returns c = let s = c.args in rw (← mask s.p, ← mask s.q, ← mask s.x, ← mask s.y) (search rules)
+returns c = let s = c.args.n in rw (← mask s.p, ← mask s.q, ← mask s.x, ← mask s.y) (search rules)

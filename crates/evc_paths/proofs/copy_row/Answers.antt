@@ -14,6 +14,6 @@ loop-x-preserved c =
     let i = c.loop-x.invariant in (
       (let t = c.loop-x-test.true in omega arith),
       (let m = i.1 in omega arith),
-      c.copy8.auto.d ∙ i.2,
-      copied_more _ _ _ c.args.s.now _ _ i.3 c.copy8.ensures,
+      c.copy-in-loop-x.auto.d ∙ i.2,
+      copied_more _ _ _ c.args.s.now _ _ i.3 c.copy-in-loop-x.ensures,
     )

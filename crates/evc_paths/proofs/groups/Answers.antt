@@ -1,30 +1,30 @@
--- `evc_paths::groups` meets its contract. The invariant: the first cg columns are written, cg a multiple of 8. Assumes nothing.
-use Prim.Native.Nat.{ℕ, ◌+◌}
+-- `evc_paths::groups` meets its contract. The invariant: the first groups of eight columns are written. Assumes nothing.
+use Prim.Native.Nat.{ℕ, ◌+◌, ◌*◌}
 use mathlib.Core.Path.{refl, sym, ◌∙◌}
 use native.Mathlib.Omega.{arith}
+use lib.ListN.{length-replicate}
 use Rattle.evc_int.proofs.Lists.{columns_none}
 use Rattle.evc_filter.specs.Filter.{reach, interpolated_twice}
 use Rattle.evc_paths.proofs.Paths.{part_within, group_step}
 use Rattle.evc_paths.proofs.groups.Goals as goal
 
-pub loop-cg-init : goal.loop-cg-init
-loop-cg-init c = let a = c.args in (omega arith, refl, refl, refl, sym (columns_none a.pred.now 0 a.w a.h _))
+pub loop-group-init : goal.loop-group-init
+loop-group-init g c = let a = c.args in (omega arith, length-replicate _ _, refl, sym (columns_none a.pred.now 0 a.w a.h _))
 
-pub columns-requires-in-loop-cg : goal.columns-requires-in-loop-cg
-columns-requires-in-loop-cg c =
+pub columns-requires-in-loop-group-clause-w_value : goal.columns-requires-in-loop-group-clause-w_value
+columns-requires-in-loop-group-clause-w_value g c =
     let a = c.args in
-    let l = c.loop-cg in
-    let p = c.requires.w_value in
-    let t = c.loop-cg-test.true in record { t_in_bounds = (omega (arith, c.requires.t_in_bounds.0), (let e = l.invariant.3 in omega (arith, c.requires.t_in_bounds.1))); n_value = (refl, omega arith, p.2, p.3, p.4, p.5, (let e = l.invariant.2 in omega (arith, p.6))); w_value = (λ l. absurd (omega arith), part_within a.s.now a.at a.stride a.w (reach a.t) (a.h + reach a.t) l.cg 8 t c.requires.within) }
+    let l = c.loop-group in
+    let t = c.loop-group-test.true in
+    (λ l. absurd (omega arith), part_within a.s.now a.at a.stride a.w (reach a.t) (a.h + reach a.t) (8 * l.group) 8 (omega arith) c.requires.within)
 
-pub loop-cg-preserved : goal.loop-cg-preserved
-loop-cg-preserved c =
-    let l = c.loop-cg in
+pub loop-group-preserved : goal.loop-group-preserved
+loop-group-preserved g c =
+    let l = c.loop-group in
     let a = c.args in
-    let t = c.loop-cg-test.true in (
+    let t = c.loop-group-test.true in (
       omega arith,
-      (let e = l.invariant.1 in omega arith),
-      c.columns-in-loop-cg.auto.m ∙ l.invariant.2,
-      c.columns-in-loop-cg.auto.pred ∙ l.invariant.3,
-      group_step (λ (i : ℕ). interpolated_twice a.t a.dx a.dy a.s.now i a.stride) _ _ _ _ _ _ _ _ t l.invariant.4 c.columns-in-loop-cg.ensures,
+      c.columns-in-loop-group.auto.m ∙ l.invariant.1,
+      c.columns-in-loop-group.auto.pred ∙ l.invariant.2,
+      group_step (λ (i : ℕ). interpolated_twice a.t a.dx a.dy a.s.now i a.stride) _ _ _ _ _ _ _ 8 (8 * l.group) (8 * (l.group + 1)) (omega arith) (omega arith) l.invariant.3 c.columns-in-loop-group.ensures,
     )

@@ -1,7 +1,0 @@
--- `evc_filter::first_at` meets its contract. Assumes nothing.
-use Rattle.evc_filter.specs.Inner.{first_at}
-use Rattle.evc_filter.proofs.first_at.Goals as goal
-
-pub returns : goal.returns
-unfolding first_at
-returns c = cc

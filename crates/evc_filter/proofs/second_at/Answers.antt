@@ -1,7 +1,0 @@
--- `evc_filter::second_at` meets its contract. Assumes nothing.
-use Rattle.evc_filter.specs.Inner.{second_at}
-use Rattle.evc_filter.proofs.second_at.Goals as goal
-
-pub returns : goal.returns
-unfolding second_at
-returns c = cc
