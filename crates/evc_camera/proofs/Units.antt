@@ -1,5 +1,5 @@
 -- Sums over one unit more, and what they are within. Assumes nothing.
-use mathlib.Core.Bool.{Bool, true, false, not, cond, ◌&&◌, ◌||◌}
+use mathlib.Core.Bool.{Bool, true, false, cond, ◌||◌}
 use mathlib.Core.List.{List}
 use mathlib.Core.Path.{◌≡◌, refl, sym, ap, ap₂, subst, ◌∙◌}
 use Prim.Native.Nat.{ℕ, ◌+◌, ◌*◌, ◌≤◌}
@@ -10,9 +10,8 @@ use lib.IntN.{ℤ, pos, nat_abs}
 use mir.Syntax.{w64}
 use mir.Val.{SFits}
 use Rattle.evc_int.proofs.Machine.{fit_abs}
-use Rattle.evc_def.specs.Tables.{is_coded, is_intra}
 use Rattle.evc_def.specs.declared.EvcMv.{EvcMv}
-use Rattle.evc_map.specs.Maps.{most_units, word_at, mv_at}
+use Rattle.evc_map.specs.Maps.{most_units, mv_at}
 use Rattle.evc_camera.specs.declared.Sums.{Sums}
 use Rattle.evc_camera.specs.Camera.{is_counted, with_mv, sums_of}
 use Rattle.evc_camera.specs.Inner.{Within}

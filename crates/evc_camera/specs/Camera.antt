@@ -1,5 +1,5 @@
 -- Document 02, W4: "Add a summary of a picture's motion map with its unit words".
-use Rattle.std.specs.Prelude.{Bool, true, false, cond, not, ◌&&◌, ◌||◌, List, [], ◌∷◌, ℕ, zero, suc, ◌+◌, ◌*◌, eqb, ℤ, pos, negsuc, nat_abs, ◌+ℤ◌, length, Float}
+use Rattle.std.specs.Prelude.{Bool, true, false, cond, not, ◌&&◌, ◌||◌, List, [], ◌∷◌, ℕ, zero, suc, ◌+◌, ◌*◌, eqb, ℤ, pos, negsuc, nat_abs, ◌+ℤ◌, length, Float, Result, Ok, Err}
 use Rattle.std.specs.Float.Ieee as Ieee
 use Rattle.std.specs.Float.{binary64}
 use Rattle.evc_int.specs.Whole.{eq_z}
@@ -7,6 +7,8 @@ use Rattle.evc_def.specs.Blocks.{bad_picture}
 use Rattle.evc_def.specs.Codes.{Check, ◌when◌, first_of}
 use Rattle.evc_def.specs.Tables.{is_coded, is_intra}
 use Rattle.evc_def.specs.declared.EvcMv.{EvcMv}
+use Rattle.evc_def.specs.declared.refusal.Refusal.{Refusal}
+use Rattle.evc_def.specs.Refusals.{number_of}
 use Rattle.evc_map.specs.Maps.{units_of, word_at, words_short, mv_at, map_short}
 use Rattle.evc_camera.specs.declared.Sums.{Sums}
 use Rattle.evc_camera.specs.declared.CameraMotion.{CameraMotion}
@@ -59,3 +61,8 @@ unfoldable pub camera_motion : ℕ → ℕ → List ℤ → List ℕ → EvcCame
 camera_motion W H map words =
     let code = first_of (camera_checks W H (length map) (length words)) in
     answer code (cond (eqb code 0) (motion_of (sums_of map words (units_of W H))) None)
+
+-- an answer as the call returns it
+abbrev pub answer_of : Result CameraMotion Refusal → EvcCamera
+answer_of (Ok m) = answer 0 m
+answer_of (Err r) = answer (number_of r) None

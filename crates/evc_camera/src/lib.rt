@@ -1,12 +1,11 @@
 #![tactic(auto)]
 
 ghost use Rattle.std.specs.Prelude.{◌≡◌, cond, true, ◌+◌, ◌*◌, ◌<◌, ◌≤◌, length, pos, nat_abs, ◌+ℤ◌};
-ghost use Rattle.evc_def.specs.Codes.{first_of};
 ghost use Rattle.evc_map.specs.Maps.{most_units, mv_len};
-ghost use Rattle.evc_camera.specs.Camera.{is_counted, with_mv, sums_of, mean_of, motion_of, answer, camera_checks, camera_motion};
+ghost use Rattle.evc_camera.specs.Camera.{is_counted, with_mv, sums_of, mean_of, motion_of, answer, answer_of, camera_motion};
 ghost use Rattle.evc_camera.specs.Inner.{Within, AllCounted};
 
-use evc_def::{EvcMv, Scu};
+use evc_def::{EvcMv, Picture, RefList, Refusal, Scu};
 
 // The units that count, and the whole sums of their list 0 vectors, in quarter samples. How large they are stands in contracts
 // (`Within`): a ghost field would put a proof into the definition `sums_of`.
@@ -103,7 +102,7 @@ impl UnitMaps<'_> {
         let mut sums = s;
         for i in from..to {
             let counted = all | self.counts(i);
-            let mv = evc_map::mv_at(self.map_mv, Scu(i), 0);
+            let mv = evc_map::mv_at(self.map_mv, Scu(i), RefList::List0);
             sums = add_mv(sums, counted, mv);
         }
         sums
@@ -175,34 +174,38 @@ impl From<CameraMotion> for EvcCamera {
     }
 }
 
-// ---- the call
+impl From<Result<CameraMotion, Refusal>> for EvcCamera {
+    ghost from_gives = { λ motion camera. camera ≡ answer_of motion };
 
-fn camera_code(pic_w: u32, pic_h: u32, map_mv: usize, map_scu: usize) -> u32
-    ensures { result ≡ first_of (camera_checks pic_w pic_h map_mv map_scu) }
-{
-    if evc_def::bad_picture(pic_w, pic_h) {
-        return 1;
+    fn from(motion: Result<CameraMotion, Refusal>) -> EvcCamera {
+        match motion {
+            Ok(motion) => EvcCamera::from(motion),
+            Err(refusal) => EvcCamera {
+                code: refusal.number(),
+                ..EvcCamera::from(CameraMotion::None)
+            },
+        }
     }
-    if evc_map::map_short(pic_w, pic_h, map_mv) | evc_map::words_short(pic_w, pic_h, map_scu) {
-        return 4;
-    }
-    0
 }
 
-pub fn evc_camera_motion(pic_w: u32, pic_h: u32, map_mv: &[i16], map_scu: &[u32]) -> EvcCamera
-    ensures { result ≡ camera_motion pic_w pic_h map_mv.now map_scu.now }
+// ---- the call
+
+pub fn camera_motion(
+    pic_w: u32,
+    pic_h: u32,
+    map_mv: &[i16],
+    map_scu: &[u32],
+) -> Result<CameraMotion, Refusal>
+    ensures { answer_of result ≡ camera_motion pic_w pic_h map_mv.now map_scu.now }
 {
-    let code = camera_code(pic_w, pic_h, map_mv.len(), map_scu.len());
-    if code != 0 {
-        return EvcCamera {
-            code,
-            ..EvcCamera::from(CameraMotion::None)
-        };
+    let pic = Picture::new(pic_w, pic_h)?;
+    if evc_map::map_short(pic, map_mv.len()) | evc_map::words_short(pic, map_scu.len()) {
+        return Err(Refusal::Buffer);
     }
     let maps = UnitMaps {
         map_mv,
         map_scu,
-        units: evc_map::unit_count(pic_w, pic_h).index(),
+        units: evc_map::unit_count(pic).index(),
     };
-    EvcCamera::from(motion_of(maps.sums()))
+    Ok(motion_of(maps.sums()))
 }

@@ -1,11 +1,12 @@
 #![tactic(auto)]
 
-ghost use Rattle.std.specs.Prelude.{◌≡◌, false, ◌⊎◌, ℕ, ◌+◌, ◌*◌, ◌<◌, ◌≤◌, length, replicate, get_or};
+ghost use Rattle.std.specs.Prelude.{◌≡◌, IfOk, ◌⊎◌, ℕ, ◌+◌, ◌*◌, ◌<◌, ◌≤◌, length, replicate, get_or};
 ghost use Rattle.evc_int.specs.Lists.{with_block};
-ghost use Rattle.evc_def.specs.Blocks.{bad_picture};
+ghost use Rattle.evc_def.specs.Refusals.{code_of};
 ghost use Rattle.evc_plane.specs.Planes.{plane_len};
 ghost use Rattle.evc_pad.specs.Padding.{padded, pad_code, pad_after};
 
+use evc_def::{Picture, Refusal};
 use evc_plane::{PlaneType, plane_config, plane_len};
 
 // The library's `fill` writes the last sample by itself, for which the border of a small plane took a quarter longer.
@@ -50,12 +51,11 @@ fn pad_rows(plane: &mut [u16], stride: usize, from: usize, to: usize, h: usize)
 }
 
 // Left, right to the stride, then whole rows up and down.
-fn pad_plane(t: PlaneType, pic_w: u32, pic_h: u32, plane: &mut [u16])
-    requires pic_h_value { bad_picture pic_w pic_h ≡ false }
-    requires pic_h_in_bounds { plane_len t pic_w pic_h ≤ length plane.old }
-    ensures { plane.new ≡ padded t pic_w pic_h plane.old }
+fn pad_plane(t: PlaneType, pic: Picture, plane: &mut [u16])
+    requires { plane_len t pic.w pic.h ≤ length plane.old }
+    ensures { plane.new ≡ padded t pic.w pic.h plane.old }
 {
-    let c = plane_config(t, pic_w, pic_h);
+    let c = plane_config(t, pic);
     let stride = c.stride;
     let pad = c.yorigin;
     let right = c.xorigin + c.width;
@@ -75,16 +75,15 @@ fn pad_plane(t: PlaneType, pic_w: u32, pic_h: u32, plane: &mut [u16])
     pad_rows(plane, stride, bottom - stride, bottom, pad);
 }
 
-fn pad_code(t: PlaneType, pic_w: u32, pic_h: u32, plane: &[u16]) -> u32
-    ensures { result ≡ pad_code t pic_w pic_h plane.now }
+fn checked(t: PlaneType, pic_w: u32, pic_h: u32, plane: &[u16]) -> Result<Picture, Refusal>
+    ensures code { code_of result ≡ pad_code t pic_w pic_h plane.now }
+    ensures value { IfOk result (λ pic. (pic.w ≡ pic_w) × (pic.h ≡ pic_h)) }
 {
-    if evc_def::bad_picture(pic_w, pic_h) {
-        return 1;
+    let pic = Picture::new(pic_w, pic_h)?;
+    if plane.len() < plane_len(t, pic) {
+        return Err(Refusal::Buffer);
     }
-    if plane.len() < plane_len(t, pic_w, pic_h) {
-        return 4;
-    }
-    let c = plane_config(t, pic_w, pic_h);
+    let c = plane_config(t, pic);
     if evc_samples::exceeds(
         plane,
         c.yorigin * c.stride + c.xorigin,
@@ -92,19 +91,16 @@ fn pad_code(t: PlaneType, pic_w: u32, pic_h: u32, plane: &[u16]) -> u32
         c.width,
         c.height,
     ) {
-        return 6;
+        return Err(Refusal::Sample);
     }
-    0
+    Ok(pic)
 }
 
-pub fn pad(t: PlaneType, pic_w: u32, pic_h: u32, plane: &mut [u16]) -> u32
-    ensures value { result ≡ pad_code t pic_w pic_h plane.old }
+pub fn pad(t: PlaneType, pic_w: u32, pic_h: u32, plane: &mut [u16]) -> Result<(), Refusal>
+    ensures value { code_of result ≡ pad_code t pic_w pic_h plane.old }
     ensures plane_after { plane.new ≡ pad_after t pic_w pic_h plane.old }
 {
-    let code = pad_code(t, pic_w, pic_h, plane);
-    if code != 0 {
-        return code;
-    }
-    pad_plane(t, pic_w, pic_h, plane);
-    0
+    let pic = checked(t, pic_w, pic_h, plane)?;
+    pad_plane(t, pic, plane);
+    Ok(())
 }

@@ -32,7 +32,7 @@ module _ (t : PlaneType) (W H : ℕ) (c : PlaneConfig) (e : c ≡ config_of t W 
       ∙ ap (λ (z : PlaneConfig). with_block s 0 z.stride z.stride (z.yorigin + z.height + z.yorigin) (held z.yorigin z.xorigin z.width z.height z.stride s)) e
 
 known : (c : place.After-plane_config claims Pre Post clauses) → Room c.plane_config-c.result (length c.args.plane.now)
-known c = room _ _ _ _ _ c.plane_config-c.ensures c.requires.pic_h_value c.requires.pic_h_in_bounds
+known c = room _ _ _ _ _ c.plane_config-c.ensures c.args.pic.accepted c.requires
 
 length₁ : (c : place.After-pad_columns-arg2 claims Pre Post clauses) → length c.pad_columns.new.plane ≡ length c.args.plane.now
 length₁ c = c.pad_columns.auto.plane
@@ -63,7 +63,7 @@ pad_rows-requires-2 c =
 
 pub returns : goal.returns
 returns c =
-    by_steps _ _ _ c.plane_config-c.result c.plane_config-c.ensures _ _ _ _ _ c.requires.pic_h_value c.requires.pic_h_in_bounds c.pad_columns.ensures c.pad_columns-2.ensures c.pad_rows.ensures c.pad_rows-2.ensures
+    by_steps _ _ _ c.plane_config-c.result c.plane_config-c.ensures _ _ _ _ _ c.args.pic.accepted c.requires c.pad_columns.ensures c.pad_columns-2.ensures c.pad_rows.ensures c.pad_rows-2.ensures
 
 pub overflow_add-right : goal.overflow_add-right
 overflow_add-right c = let z = known c.before.before in omega arith
