@@ -1,8 +1,10 @@
 -- Document 01, 'Flags', and document 02, W5: flags where only some units count as available.
-use Rattle.std.specs.Prelude.{◌≡◌, ℕ, ◌+◌, ◌^◌, Bool, true, cond, not, ◌&&◌, List, [], ◌∷◌, ◌++◌, length, replicate, ◌==◌}
+use Rattle.std.specs.Prelude.{◌≡◌, ℕ, ◌+◌, ◌^◌, Bool, true, cond, not, ◌&&◌, List, [], ◌∷◌, ◌++◌, length, replicate, ◌==◌, Result, Ok, Err}
 use Rattle.evc_def.specs.Codes.{Check, ◌when◌, first_of, block_checks}
 use Rattle.evc_def.specs.Tables.{is_coded, is_intra}
+use Rattle.evc_def.specs.Refusals.{number_of}
 use Rattle.evc_def.specs.declared.EvcBlock.{EvcBlock}
+use Rattle.evc_def.specs.declared.refusal.Refusal.{Refusal}
 use Rattle.evc_map.specs.Maps.{words_short}
 use Rattle.evc_avail.specs.Around.{left_of, first_column, last_column, right_of, above, first_row, below, has_unit, word_of}
 use Rattle.evc_avail.specs.declared.EvcAvail.{EvcAvail}
@@ -79,6 +81,11 @@ avail_checks b words = block_checks b ++ (4 when words_short b.pic_w b.pic_h wor
 
 unfoldable pub get_avail_inter : EvcBlock → List ℕ → EvcAvail
 get_avail_inter b map = answered (first_of (avail_checks b (length map))) (avail_inter b map)
+
+-- an answer as the call returns it
+abbrev pub answer_of : Result ℕ Refusal → EvcAvail
+answer_of (Ok avail) = record { code = 0; avail = avail }
+answer_of (Err r) = record { code = number_of r; avail = 0 }
 
 -- 'Edges to try': an 8 by 8 picture with a 4 by 4 block at (4,4)
 abbrev pub corner : EvcBlock

@@ -1,18 +1,18 @@
 #![tactic(auto)]
 
-ghost use Rattle.std.specs.Prelude.{◌≡◌, ℕ, ◌*◌, ◌<◌, ◌≤◌, Bool, not, ◌&&◌, length, if◌then◌else◌, IfSome, Some};
-ghost use Rattle.evc_def.specs.Blocks.{Allowed};
-ghost use Rattle.evc_def.specs.Codes.{first_of};
+ghost use Rattle.std.specs.Prelude.{◌≡◌, ℕ, ◌*◌, ◌<◌, ◌≤◌, Bool, not, ◌&&◌, [], ◌∷◌, length, nat_lt, if◌then◌else◌, IfSome, Some, IfOk};
+ghost use Rattle.evc_def.specs.Codes.{◌when◌, first_of};
+ghost use Rattle.evc_def.specs.Refusals.{code_of};
 ghost use Rattle.evc_def.specs.Tables.{is_coded, is_intra};
 ghost use Rattle.evc_map.specs.Maps.{units_of, scup, scuh, w_scu};
 ghost use Rattle.evc_avail.specs.Around.{left_of, first_column, right_of, above, first_row, below};
-ghost use Rattle.evc_avail.specs.Flags.{is_inter_in, is_not_intra_in, avail_left_in, avail_right_in, avail_up_in, avail_of, of_picture, avail_checks, get_avail_inter};
-ghost use Rattle.evc_avail.specs.Slices.{of_slice, max_slice_num, slice_checks, get_avail_inter_slice};
+ghost use Rattle.evc_avail.specs.Flags.{is_inter_in, is_not_intra_in, avail_left_in, avail_right_in, avail_up_in, avail_of, of_picture, avail_checks, get_avail_inter, answer_of};
+ghost use Rattle.evc_avail.specs.Slices.{of_slice, max_slice_num, get_avail_inter_slice};
 ghost use Rattle.evc_avail.specs.Inner.{Seen, unit_of, in_first_column};
 
 use evc_def::{
     AVAIL_LE, AVAIL_LO_LE, AVAIL_LO_RI, AVAIL_RI, AVAIL_RI_UP, AVAIL_UP, AVAIL_UP_LE, AVAIL_UP_RI,
-    EvcBlock, MCU, Scu,
+    Block, EvcBlock, MCU, Refusal, Scu,
 };
 
 #[repr(C)]
@@ -20,6 +20,20 @@ use evc_def::{
 pub struct EvcAvail {
     pub code: u32,
     pub avail: u16,
+}
+
+impl From<Result<u16, Refusal>> for EvcAvail {
+    ghost from_gives = { λ avail answer. answer ≡ answer_of avail };
+
+    fn from(avail: Result<u16, Refusal>) -> EvcAvail {
+        match avail {
+            Ok(avail) => EvcAvail { code: 0, avail },
+            Err(refusal) => EvcAvail {
+                code: refusal.number(),
+                avail: 0,
+            },
+        }
+    }
 }
 
 // The part of a picture whose units count as available.
@@ -58,7 +72,19 @@ struct Slice {
     ghost in_range: { slice_num ≤ max_slice_num },
 }
 
+const MAX_SLICE_NUM: u32 = 127;
+
 impl Slice {
+    fn new(slice_num: u32) -> Result<Slice, Refusal>
+        ensures code { code_of result ≡ first_of (13 when nat_lt max_slice_num slice_num ∷ []) }
+        ensures value { IfOk result (λ slice. slice.slice_num ≡ slice_num) }
+    {
+        if slice_num > MAX_SLICE_NUM {
+            return Err(Refusal::Slice);
+        }
+        Ok(Slice { slice_num })
+    }
+
     // A unit's word with a slice number of 0 if the unit is one of the slice's, and of something else if not. The optimizer
     // then makes one test of slice, coded and intra.
     fn seen(self, mcu: MCU) -> MCU
@@ -92,76 +118,80 @@ fn flag(set: bool, bit: u16) -> u16
 // The units around a block, in its picture's words, and which of them count. A unit that the picture has is given by its index.
 #[derive(Drop)]
 struct Neighbours<'a, R> {
-    block: EvcBlock,
+    block: Block,
     map_scu: &'a [u32],
     region: R,
     // The block's first unit, and how many units lead from it to the row below the block.
     first: Scu,
     down: Scu,
-    ghost allowed: { Allowed block.pic_w block.x block.w × Allowed block.pic_h block.y block.h },
-    ghost has_words: { units_of block.pic_w block.pic_h ≤ length map_scu.now },
-    ghost first_is: { first.0 ≡ scup block },
-    ghost down_is: { down.0 ≡ scuh block * w_scu block },
+    ghost has_words: { units_of block.given.pic_w block.given.pic_h ≤ length map_scu.now },
+    ghost first_is: { first.0 ≡ scup block.given },
+    ghost down_is: { down.0 ≡ scuh block.given * w_scu block.given },
 }
 
 impl<'a, R: Region> Neighbours<'a, R> {
-    fn new(block: EvcBlock, map_scu: &'a [u32], region: R) -> Neighbours<'a, R>
-        requires allowed { Allowed block.pic_w block.x block.w × Allowed block.pic_h block.y block.h }
-        requires has_words { units_of block.pic_w block.pic_h ≤ length map_scu.now }
+    fn new(block: Block, map_scu: &'a [u32], region: R) -> Neighbours<'a, R>
+        requires { units_of block.given.pic_w block.given.pic_h ≤ length map_scu.now }
         ensures { (result.block ≡ block) × (result.map_scu.now ≡ map_scu.now) × (result.region ≡ region) }
     {
         Neighbours {
             block,
             map_scu,
             region,
-            first: evc_map::unit_at(block.pic_w, block.x, block.y),
-            down: Scu(evc_map::scu(block.h).0 * evc_map::scu(block.pic_w).0),
+            first: evc_map::first_unit(block),
+            down: Scu(evc_map::scu(block.given.h).0 * evc_map::scu(block.given.pic_w).0),
         }
     }
 
     // The unit above the block's first.
     fn above(&self) -> Option<Scu>
-        ensures { let b = self.now.block in
+        ensures { let b = self.now.block.given in
             result ≡ unit_of b (first_column b) (above b) }
     {
-        if self.block.y == 0 {
+        if self.block.given.y == 0 {
             return None;
         }
-        Some(Scu(self.first.0 - evc_map::scu(self.block.pic_w).0))
+        Some(Scu(self.first.0 - evc_map::scu(self.block.given.pic_w).0))
     }
 
     // The unit below the block, in its first column.
     #[tactic(auto, using(crate::proofs::Around::below_unit))]
     fn below(&self) -> Option<Scu>
-        ensures { let b = self.now.block in
+        ensures { let b = self.now.block.given in
             result ≡ unit_of b (first_column b) (below b) }
     {
-        evc_def::has_below(self.block).then_some(Scu(self.first.0 + self.down.0))
+        self.block
+            .down()
+            .goes_on()
+            .then_some(Scu(self.first.0 + self.down.0))
     }
 
     // The unit left of the block, in the row of one in its first column.
     fn left_of(&self, unit: Scu) -> Option<Scu>
-        requires { in_first_column self.now.block unit }
-        ensures { let b = self.now.block in
+        requires { in_first_column self.now.block.given unit }
+        ensures { let b = self.now.block.given in
             (row : ℕ) → unit_of b (first_column b) row ≡ Some unit → result ≡ unit_of b (left_of b) row }
     {
-        if self.block.x == 0 {
+        if self.block.given.x == 0 {
             return None;
         }
         Some(Scu(unit.0 - 1))
     }
 
     fn right_of(&self, unit: Scu) -> Option<Scu>
-        requires { in_first_column self.now.block unit }
-        ensures { let b = self.now.block in
+        requires { in_first_column self.now.block.given unit }
+        ensures { let b = self.now.block.given in
             (row : ℕ) → unit_of b (first_column b) row ≡ Some unit → result ≡ unit_of b (right_of b) row }
     {
-        evc_def::has_right(self.block).then_some(Scu(unit.0 + evc_map::scu(self.block.w).0))
+        self.block
+            .across()
+            .goes_on()
+            .then_some(Scu(unit.0 + evc_map::scu(self.block.given.w).0))
     }
 
     #[tactic(auto, using(crate::proofs::Around::first_unit))]
     fn left(&self) -> Option<Scu>
-        ensures { let b = self.now.block in
+        ensures { let b = self.now.block.given in
             result ≡ unit_of b (left_of b) (first_row b) }
     {
         self.left_of(self.first)
@@ -169,21 +199,21 @@ impl<'a, R: Region> Neighbours<'a, R> {
 
     #[tactic(auto, using(crate::proofs::Around::first_unit))]
     fn right(&self) -> Option<Scu>
-        ensures { let b = self.now.block in
+        ensures { let b = self.now.block.given in
             result ≡ unit_of b (right_of b) (first_row b) }
     {
         self.right_of(self.first)
     }
 
     fn lower_left(&self) -> Option<Scu>
-        ensures { let b = self.now.block in
+        ensures { let b = self.now.block.given in
             result ≡ unit_of b (left_of b) (below b) }
     {
         self.left_of(self.below()?)
     }
 
     fn lower_right(&self) -> Option<Scu>
-        ensures { let b = self.now.block in
+        ensures { let b = self.now.block.given in
             result ≡ unit_of b (right_of b) (below b) }
     {
         self.right_of(self.below()?)
@@ -192,9 +222,9 @@ impl<'a, R: Region> Neighbours<'a, R> {
     // Whether a unit is available, coded and not intra. A unit outside the picture is not.
     #[tactic(auto, using(crate::proofs::Around::no_inter, crate::proofs::Around::inter_is))]
     fn is_inter(&self, unit: Option<Scu>) -> bool
-        requires { IfSome unit (λ scup. scup.0 < units_of self.now.block.pic_w self.now.block.pic_h) }
+        requires { IfSome unit (λ scup. scup.0 < units_of self.now.block.given.pic_w self.now.block.given.pic_h) }
         ensures { let n = self.now in
-            (column row : ℕ) → unit ≡ unit_of n.block column row → result ≡ is_inter_in (R.counts n.region) n.block n.map_scu.now column row }
+            (column row : ℕ) → unit ≡ unit_of n.block.given column row → result ≡ is_inter_in (R.counts n.region) n.block.given n.map_scu.now column row }
     {
         let Some(scup) = unit else {
             return false;
@@ -204,9 +234,9 @@ impl<'a, R: Region> Neighbours<'a, R> {
 
     #[tactic(auto, using(crate::proofs::Around::not_intra_is))]
     fn is_not_intra(&self, scup: Scu) -> bool
-        requires { scup.0 < units_of self.now.block.pic_w self.now.block.pic_h }
+        requires { scup.0 < units_of self.now.block.given.pic_w self.now.block.given.pic_h }
         ensures { let n = self.now in
-            (column row : ℕ) → Some scup ≡ unit_of n.block column row → result ≡ is_not_intra_in (R.counts n.region) n.block n.map_scu.now column row }
+            (column row : ℕ) → Some scup ≡ unit_of n.block.given column row → result ≡ is_not_intra_in (R.counts n.region) n.block.given n.map_scu.now column row }
     {
         self.region
             .is_not_intra(evc_map::mcu_at(self.map_scu, scup))
@@ -214,7 +244,7 @@ impl<'a, R: Region> Neighbours<'a, R> {
 
     fn avail_left(&self) -> u16
         ensures { let n = self.now in
-            (result ≡ avail_left_in (R.counts n.region) n.block n.map_scu.now) × (result ≤ 130) }
+            (result ≡ avail_left_in (R.counts n.region) n.block.given n.map_scu.now) × (result ≤ 130) }
     {
         let le = self.is_inter(self.left());
         if !le {
@@ -226,7 +256,7 @@ impl<'a, R: Region> Neighbours<'a, R> {
 
     fn avail_right(&self) -> u16
         ensures { let n = self.now in
-            (result ≡ avail_right_in (R.counts n.region) n.block n.map_scu.now) × (result ≤ 264) }
+            (result ≡ avail_right_in (R.counts n.region) n.block.given n.map_scu.now) × (result ≤ 264) }
     {
         let ri = self.is_inter(self.right());
         if !ri {
@@ -238,12 +268,12 @@ impl<'a, R: Region> Neighbours<'a, R> {
 
     fn avail_up(&self) -> u16
         ensures { let n = self.now in
-            (result ≡ avail_up_in (R.counts n.region) n.block n.map_scu.now) × (result ≤ 609) }
+            (result ≡ avail_up_in (R.counts n.region) n.block.given n.map_scu.now) × (result ≤ 609) }
     {
         let Some(above) = self.above() else {
             return 0;
         };
-        let scuw = evc_map::scu(self.block.w);
+        let scuw = evc_map::scu(self.block.given.w);
         let up = self.is_not_intra(above);
         let ri_up = self.is_not_intra(Scu(above.0 + scuw.0 - 1));
         let up_le = self.is_inter(self.left_of(above));
@@ -257,7 +287,7 @@ impl<'a, R: Region> Neighbours<'a, R> {
     #[tactic(auto, unfolding(crate::specs::Flags::avail_of))]
     fn avail_inter(&self) -> u16
         ensures { let n = self.now in
-            result ≡ avail_of (R.counts n.region) n.block n.map_scu.now }
+            result ≡ avail_of (R.counts n.region) n.block.given n.map_scu.now }
     {
         let left = self.avail_left();
         let right = self.avail_right();
@@ -265,59 +295,36 @@ impl<'a, R: Region> Neighbours<'a, R> {
     }
 }
 
-fn avail_code(b: EvcBlock, words: usize) -> u32
-    ensures { result ≡ first_of (avail_checks b words) }
+// The block, if its call is accepted.
+fn checked(block: EvcBlock, map_scu: &[u32]) -> Result<Block, Refusal>
+    ensures code { code_of result ≡ first_of (avail_checks block (length map_scu.now)) }
+    ensures value { IfOk result (λ b. b.given ≡ block) }
 {
-    let code = evc_def::block_code(b);
-    if code != 0 {
-        return code;
+    let b = Block::new(block)?;
+    if evc_map::words_short(b.picture(), map_scu.len()) {
+        return Err(Refusal::Buffer);
     }
-    if evc_map::words_short(b.pic_w, b.pic_h, words) {
-        return 4;
-    }
-    0
+    Ok(b)
 }
 
-pub fn evc_get_avail_inter(block: EvcBlock, map_scu: &[u32]) -> EvcAvail
-    ensures { result ≡ get_avail_inter block map_scu.now }
+pub fn get_avail_inter(block: EvcBlock, map_scu: &[u32]) -> Result<u16, Refusal>
+    ensures { answer_of result ≡ get_avail_inter block map_scu.now }
 {
-    let code = avail_code(block, map_scu.len());
-    if code != 0 {
-        return EvcAvail { code, avail: 0 };
-    }
-    EvcAvail {
-        code: 0,
-        avail: Neighbours::new(block, map_scu, Picture).avail_inter(),
-    }
+    let b = checked(block, map_scu)?;
+    Ok(Neighbours::new(b, map_scu, Picture).avail_inter())
 }
 
 // ---- document 02, W5: flags in a slice
 
-const MAX_SLICE_NUM: u32 = 127;
-
-fn slice_code(b: EvcBlock, slice_num: u32, words: usize) -> u32
-    ensures { result ≡ first_of (slice_checks b slice_num words) }
-{
-    let code = avail_code(b, words);
-    if code != 0 {
-        return code;
-    }
-    if slice_num > MAX_SLICE_NUM {
-        return 13;
-    }
-    0
-}
-
 // The flags of a block of this slice: a unit of another slice sets none.
-pub fn evc_get_avail_inter_slice(block: EvcBlock, slice_num: u32, map_scu: &[u32]) -> EvcAvail
-    ensures { result ≡ get_avail_inter_slice block slice_num map_scu.now }
+pub fn get_avail_inter_slice(
+    block: EvcBlock,
+    slice_num: u32,
+    map_scu: &[u32],
+) -> Result<u16, Refusal>
+    ensures { answer_of result ≡ get_avail_inter_slice block slice_num map_scu.now }
 {
-    let code = slice_code(block, slice_num, map_scu.len());
-    if code != 0 {
-        return EvcAvail { code, avail: 0 };
-    }
-    EvcAvail {
-        code: 0,
-        avail: Neighbours::new(block, map_scu, Slice { slice_num }).avail_inter(),
-    }
+    let b = checked(block, map_scu)?;
+    let slice = Slice::new(slice_num)?;
+    Ok(Neighbours::new(b, map_scu, slice).avail_inter())
 }

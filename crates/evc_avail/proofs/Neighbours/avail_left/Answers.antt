@@ -6,19 +6,19 @@ use Rattle.evc_avail.proofs.Flags.{no_left, left_flags}
 use Rattle.evc_avail.proofs.Neighbours.avail_left.Goals as goal
 
 pub is_inter-le-requires : goal.is_inter-le-requires
-is_inter-le-requires g c = let b = c.args.self.now.block in unit_low b (left_of b) (first_row b) _ c.left.ensures
+is_inter-le-requires g c = let b = c.args.self.now.block.given in unit_low b (left_of b) (first_row b) _ c.left.ensures
 
 pub returns-then-not-le : goal.returns-then-not-le
 returns-then-not-le g c =
-    let b = c.args.self.now.block in
+    let b = c.args.self.now.block.given in
     (no_left _ _ _ _ (c.is_inter-le.ensures (left_of b) (first_row b) c.left.ensures) c.if-not-le.true, omega arith)
 
 pub is_inter-lo_le-requires : goal.is_inter-lo_le-requires
-is_inter-lo_le-requires g c = let b = c.args.self.now.block in unit_low b (left_of b) (below b) _ c.lower_left.ensures
+is_inter-lo_le-requires g c = let b = c.args.self.now.block.given in unit_low b (left_of b) (below b) _ c.lower_left.ensures
 
 pub returns : goal.returns
 returns g c =
-    let b = c.args.self.now.block in
+    let b = c.args.self.now.block.given in
     let left = c.is_inter-le.ensures (left_of b) (first_row b) c.left.ensures in
     let lower = c.is_inter-lo_le.ensures (left_of b) (below b) c.lower_left.ensures in
     let bound = c.flag.ensures.1 in

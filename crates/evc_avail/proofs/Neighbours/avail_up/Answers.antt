@@ -8,27 +8,27 @@ use Rattle.evc_avail.proofs.Neighbours.avail_up.Goals as goal
 pub returns-in_default : goal.returns-in_default
 returns-in_default g c =
     let n = c.args.self.now in
-    let p = n.allowed in
-    (no_up _ _ _ p.0 p.1 (first_above n.block p.0 p.1 (sym c.in_default.is ∙ c.above.ensures)), omega arith)
+    let p = n.block in
+    (no_up _ _ _ p.across p.down (first_above n.block.given p.across p.down (sym c.in_default.is ∙ c.above.ensures)), omega arith)
 
 pub is_inter-up_le-requires : goal.is_inter-up_le-requires
 is_inter-up_le-requires g c =
     let n = c.args.self.now in
-    unit_low n.block (left_of n.block) (above n.block) _ (c.left_of.ensures (above n.block) (sym c.above.ensures ∙ c.in-Some.is))
+    unit_low n.block.given (left_of n.block.given) (above n.block.given) _ (c.left_of.ensures (above n.block.given) (sym c.above.ensures ∙ c.in-Some.is))
 
 pub is_inter-up_ri-requires : goal.is_inter-up_ri-requires
 is_inter-up_ri-requires g c =
     let n = c.args.self.now in
-    unit_low n.block (right_of n.block) (above n.block) _ (c.right_of.ensures (above n.block) (sym c.above.ensures ∙ c.in-Some.is))
+    unit_low n.block.given (right_of n.block.given) (above n.block.given) _ (c.right_of.ensures (above n.block.given) (sym c.above.ensures ∙ c.in-Some.is))
 
 pub returns : goal.returns
 returns g c =
     let n = c.args.self.now in
     let first = sym c.in-Some.is ∙ c.above.ensures in
-    let up = c.is_not_intra-up.ensures (first_column n.block) (above n.block) first in
-    let ri_up = c.is_not_intra-ri_up.ensures (last_column n.block) (above n.block) (last_unit n.block n.allowed.0 n.allowed.1 (above n.block) _ first _ (omega (arith, c.scu-scuw.ensures))) in
-    let up_le = c.is_inter-up_le.ensures (left_of n.block) (above n.block) (c.left_of.ensures (above n.block) (sym first)) in
-    let up_ri = c.is_inter-up_ri.ensures (right_of n.block) (above n.block) (c.right_of.ensures (above n.block) (sym first)) in
+    let up = c.is_not_intra-up.ensures (first_column n.block.given) (above n.block.given) first in
+    let ri_up = c.is_not_intra-ri_up.ensures (last_column n.block.given) (above n.block.given) (last_unit n.block.given n.block.across n.block.down (above n.block.given) _ first _ (omega (arith, c.scu-scuw.ensures))) in
+    let up_le = c.is_inter-up_le.ensures (left_of n.block.given) (above n.block.given) (c.left_of.ensures (above n.block.given) (sym first)) in
+    let up_ri = c.is_inter-up_ri.ensures (right_of n.block.given) (above n.block.given) (c.right_of.ensures (above n.block.given) (sym first)) in
     let a = c.flag.ensures.1 in
     let b = c.flag-2.ensures.1 in
     let d = c.flag-3.ensures.1 in
