@@ -148,6 +148,7 @@ fn print_stride(rt: &impl Print, name: &str, t: PlaneType, pic_w: u32) -> io::Re
     println!(rt; "{name} width {}: stride {}", c.width, c.stride)
 }
 
+#[tactic(auto, unfolding(evc_def::specs::Blocks::bad_picture))]
 fn print_strides(rt: &impl Print, name: &str, t: PlaneType) -> io::Result<()> {
     print_stride(rt, name, t, 4)?;
     print_stride(rt, name, t, 8128)
