@@ -1,8 +1,8 @@
 -- What the library prints of a number below 100,000 is its digits by their weights. Assumes nothing.
-use Rattle.std.proofs.Common.{List, [], ◌∷◌, ◌++◌, append_assoc, ◌≡◌, refl, sym, ap, ap₂, ◌∙◌, ◌⊎◌, ⊎_elim, ℕ, suc, ◌+◌, ◌*◌, ◌/◌, ◌%◌, ◌^◌, ◌<◌, ◌≤◌, arith, ℤ, pos, negsuc, ◌-ℤ◌, ◌<ℤ◌, ◌≤ℤ◌, length}
+use Rattle.std.proofs.Common.{List, [], ◌∷◌, ◌++◌, append_assoc, ◌≡◌, refl, sym, ap, ap₂, ◌∙◌, ◌⊎◌, ⊎_elim, ℕ, suc, ◌+◌, ◌*◌, ◌/◌, ◌%◌, ◌^◌, ◌<◌, ◌≤◌, arith, ℤ, pos, negsuc, ◌-ℤ◌, ◌<ℤ◌, ◌≤ℤ◌}
 use Rattle.std.proofs.lemmas.Int.{ints}
 use Rattle.std.proofs.lemmas.Bool.{le-leb, lt-leb, cases_lt}
-use Rattle.std.proofs.lemmas.Fmt.{decimal_by_steps, length-decimal-le}
+use Rattle.std.proofs.lemmas.Fmt.{decimal_by_steps}
 use Rattle.std.specs.Fmt.{decimal as printed, signed_decimal as printed_signed}
 use Rattle.mv_clip_text.specs.Decimal.{digit, decimal, signed_decimal}
 
@@ -67,7 +67,3 @@ pub signed_printed : (z : ℤ) → (pos 0 -ℤ pos 32768) ≤ℤ z → z <ℤ po
 unfolding signed_decimal
 signed_printed (pos n) l h = decimal_printed n (omega (arith, ints))
 signed_printed (negsuc n) l h = ap (λ (t : List ℕ). 45 ∷ t) (decimal_printed (suc n) (omega (arith, ints)))
-
--- five digits, and a sign
-pub decimal_short : (n : ℕ) → n < 100000 → length (decimal n) ≤ 5
-decimal_short n h = rw (← decimal_printed n h) (length-decimal-le 5 n (omega arith) h (omega (arith, h)))
