@@ -41,16 +41,25 @@ fn read_states<R: Read>(alloc: Global, input: &mut R, asked: u16) -> io::Result<
 
 fn map_of(alloc: Global, bytes: &[u8]) -> Result<Vec<i16>, AllocError> {
     let (numbers, _) = bytes.as_chunks::<2>();
-    numbers.iter().map(|number| i16::from_le_bytes(*number)).collect(alloc)
+    numbers
+        .iter()
+        .map(|number| i16::from_le_bytes(*number))
+        .collect(alloc)
 }
 
 // A state for each word lent and the numbers of the map follow the first four numbers.
 impl Record for Call {
     fn read<R: Read>(alloc: Global, input: &mut R) -> io::Result<Option<Call>> {
-        let Some(r) = evc_lists::read_array::<R, 8>(input)? else { return Ok(None) };
-        let Some(states) = read_states(alloc, input, number(&r, 2))? else { return Ok(None) };
+        let Some(r) = evc_lists::read_array::<R, 8>(input)? else {
+            return Ok(None)
+        };
+        let Some(states) = read_states(alloc, input, number(&r, 2))? else {
+            return Ok(None)
+        };
         let n = 2 * evc_lists::lent(number(&r, 3), MAX_MAP_LEN);
-        let Some(bytes) = evc_lists::read_vec(alloc, input, n)? else { return Ok(None) };
+        let Some(bytes) = evc_lists::read_vec(alloc, input, n)? else {
+            return Ok(None)
+        };
         Ok(Some(Call {
             pic_w: number32(&r, 0),
             pic_h: number32(&r, 1),
@@ -64,9 +73,7 @@ impl Record for Call {
 
 impl Call {
     fn answer(&self) -> Answer {
-        Answer(evc_camera::evc_camera_motion(
-            self.pic_w, self.pic_h, &self.map, &self.words,
-        ))
+        Answer(evc_camera::evc_camera_motion(self.pic_w, self.pic_h, &self.map, &self.words))
     }
 }
 
@@ -81,7 +88,14 @@ impl fmt::Display for Bits {
 
 impl fmt::Display for Answer {
     fn fmt<W: fmt::Write>(&self, f: &mut fmt::Formatter<W>) -> fmt::Result {
-        write!(f, "{} {} {} {}", self.0.code, self.0.kind, Bits(self.0.x), Bits(self.0.y))
+        write!(
+            f,
+            "{} {} {} {}",
+            self.0.code,
+            self.0.kind,
+            Bits(self.0.x),
+            Bits(self.0.y)
+        )
     }
 }
 

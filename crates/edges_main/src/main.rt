@@ -174,7 +174,10 @@ impl Planes {
     fn count_line(&self, rt: &impl Print, poc: u32) -> io::Result<()> {
         let b = square(128, 128, 8);
         let block = block(b, poc, &self.luma, &self.chroma);
-        println!(rt; "count {poc}: direct vectors {}, block {block}", direct(b, poc))
+        println!(rt;
+            "count {poc}: direct vectors {}, block {block}",
+            direct(b, poc)
+        )
     }
 
     // Every sample of the planes is this one.
@@ -189,10 +192,18 @@ impl Planes {
 }
 
 fn lines(rt: &impl Print, planes: &mut Planes) -> io::Result<()> {
-    [8128, 8132].iter().try_for_each(|pic_w| planes.width_line(rt, *pic_w))?;
-    [64, 12, 128].iter().try_for_each(|side| planes.side_line(rt, *side))?;
-    [32767, 32768].iter().try_for_each(|poc| planes.count_line(rt, *poc))?;
-    [1023, 1024].iter().try_for_each(|sample| planes.sample_line(rt, *sample))
+    [8128, 8132]
+        .iter()
+        .try_for_each(|pic_w| planes.width_line(rt, *pic_w))?;
+    [64, 12, 128]
+        .iter()
+        .try_for_each(|side| planes.side_line(rt, *side))?;
+    [32767, 32768]
+        .iter()
+        .try_for_each(|poc| planes.count_line(rt, *poc))?;
+    [1023, 1024]
+        .iter()
+        .try_for_each(|sample| planes.sample_line(rt, *sample))
 }
 
 fn main(rt: HostRuntime) -> io::Result<()> {

@@ -2,15 +2,17 @@
 //! rust/README.md has the records.
 #![tactic(auto)]
 
-ghost use Rattle.std.specs.Prelude.{◌≡◌, ◌+◌, ◌*◌, ◌<◌, ◌≤◌, [], ◌∷◌, ◌++◌, min, length, vec_len, IfOk, IfSome, OnOk, IsTrue};
+ghost use Rattle.std.specs.Prelude.{◌≡◌, ◌+◌, ◌*◌, ◌<◌, ◌≤◌, [], ◌∷◌, ◌++◌, min, length, map, vec_len, Some, IfOk, IfSome, OnOk, IsTrue};
 ghost use Rattle.std.specs.Io.KnownBytes.{Appends, Consumes};
+ghost use Rattle.evc_lists.specs.Units.{word_of, below};
+ghost use Rattle.evc_lists.specs.Printed.{hash, others, spaced, row_line, rows_text};
 
 use evc_def::{EvcBlock, EvcMv};
 use evc_plane::PlaneType;
 use std::alloc::{AllocError, Global};
 use std::fmt::Display;
-use std::{fmt, io};
 use std::io::{ErrorKind, Read, Write};
+use std::{fmt, io};
 
 // ---- the records of a list
 
@@ -32,7 +34,9 @@ pub fn for_each_record<R: Read, T: Record, F: FnMut(&mut R, T) -> io::Result<()>
     requires { F.IsAlwaysCallable run }
 {
     for _ in 0..most {
-        let Some(record) = T::read(alloc, input)? else { break };
+        let Some(record) = T::read(alloc, input)? else {
+            break
+        };
         run(input, record)?;
     }
     Ok(())
@@ -143,12 +147,14 @@ const WORDS: [u32; 8] = [
     0, 0x80000000, 0x00008000, 0x80008000, 0x7fff7fff, 0xffff7fff, 0x7fffffff, 0xffffffff,
 ];
 
-fn word_of(state: u8) -> u32 {
+fn word_of(state: u8) -> u32
+    ensures { result ≡ word_of state }
+{
     WORDS[usize::from(state % 8)]
 }
 
 pub fn words_of(alloc: Global, states: &[u8]) -> Result<Vec<u32>, AllocError>
-    ensures { IfOk result (λ words. vec_len words ≡ length states.now) }
+    ensures { IfOk result (λ words. words.items ≡ map word_of states.now) }
 {
     states.iter().map(|state| word_of(*state)).collect(alloc)
 }
@@ -183,18 +189,15 @@ pub fn samples(alloc: Global, n: usize, seed: u32) -> Result<Vec<u16>, AllocErro
 }
 
 // Below the limit, if there is one.
-pub fn reduce(samples: &mut [u16], limit: u16) {
+pub fn reduce(samples: &mut [u16], limit: u16)
+    ensures { samples.new ≡ map (below limit) samples.old }
+{
     for sample in samples.iter_mut() {
         *sample = sample.checked_rem(limit).unwrap_or(*sample);
     }
 }
 
-pub fn samples_below(
-    alloc: Global,
-    n: usize,
-    seed: u32,
-    limit: u16,
-) -> Result<Vec<u16>, AllocError>
+pub fn samples_below(alloc: Global, n: usize, seed: u32, limit: u16) -> Result<Vec<u16>, AllocError>
     ensures { IfOk result (λ samples. vec_len samples ≡ n) }
 {
     let mut samples = samples(alloc, n, seed)?;
@@ -302,29 +305,48 @@ pub fn print_line<W: Write, D: Display + Drop>(out: &mut W, line: D) -> io::Resu
 }
 
 // A number that depends on every sample and its place: a polynomial of the samples at 257, modulo a prime.
-pub fn hash(samples: &[u16]) -> u32 {
+pub fn hash(samples: &[u16]) -> u32
+    ensures { result ≡ hash samples.now }
+{
     samples.iter().fold(1, |z, sample| {
         ((u64::from(z) * 257 + u64::from(*sample)) % 65521) as u32
     })
 }
 
-// Samples to be read, a space between two.
+// Samples behind another, a space before each.
 #[derive(Clone, Copy)]
-struct Spaced<'a>(&'a [u16]);
+struct Others<'a>(&'a [u16]);
 
-impl<'a> Display for Spaced<'a> {
+impl<'a> Display for Others<'a> {
+    ghost output = { λ s. Some (others s.0.now) };
+
     fn fmt<W: fmt::Write>(&self, f: &mut fmt::Formatter<W>) -> fmt::Result {
-        let Some((first, others)) = self.0.split_first() else { return Ok(()) };
-        write!(f, "{first}")?;
-        for sample in others {
+        for sample in self.0 {
             write!(f, " {sample}")?;
         }
         Ok(())
     }
 }
 
+// Samples to be read.
+#[derive(Clone, Copy)]
+struct Spaced<'a>(&'a [u16]);
+
+impl<'a> Display for Spaced<'a> {
+    ghost output = { λ s. Some (spaced s.0.now) };
+
+    fn fmt<W: fmt::Write>(&self, f: &mut fmt::Formatter<W>) -> fmt::Result {
+        match self.0.split_first() {
+            None => Ok(()),
+            Some((first, others)) => write!(f, "{first}{}", Others(others)),
+        }
+    }
+}
+
 // A row is printed whole, or as a number.
-fn print_row<W: Write>(out: &mut W, row: &[u16], whole: bool) -> io::Result<()> {
+fn print_row<W: Write>(out: &mut W, row: &[u16], whole: bool) -> io::Result<()>
+    ensures { OnOk result (Appends (W.contents out.old) (W.contents out.new) (row_line whole row.now)) }
+{
     if whole {
         print_line(out, Spaced(row))
     } else {
@@ -340,9 +362,49 @@ pub fn print_rows<W: Write>(
     whole: bool,
 ) -> io::Result<()>
     requires { 0 < stride }
+    ensures { OnOk result (Appends (W.contents out.old) (W.contents out.new) (rows_text stride whole samples.now)) }
 {
     for row in samples.chunks(stride) {
         print_row(out, row, whole)?;
     }
     Ok(())
+}
+
+#[cfg(test)]
+mod tests {
+    use super::*;
+    use std::test::Fail;
+
+    #[test]
+    fn makes_words_and_samples(rt: HostRuntime) -> Result<(), Fail> {
+        let alloc = rt.alloc();
+        let words = words_of(alloc, &[1, 2, 7])?;
+        assert_eq!(rt;
+            words.as_slice(),
+            [0x80000000, 0x00008000, 0xffffffff].as_slice()
+        );
+        let samples = samples_below(alloc, 3, 1, 100)?;
+        assert_eq!(rt; samples.as_slice(), [76, 17, 27].as_slice());
+        Ok(())
+    }
+
+    #[test]
+    fn reads_what_there_is(rt: HostRuntime) -> Result<(), Fail> {
+        let mut input = [1u8, 2, 3].as_slice();
+        let two = read_vec(rt.alloc(), &mut input, 2)?;
+        assert_eq!(rt; two.map(|bytes| bytes.len()), Some(2));
+        let more = read_vec(rt.alloc(), &mut input, 2)?;
+        assert!(rt; more.is_none());
+        Ok(())
+    }
+
+    #[test]
+    fn makes_a_picture(rt: HostRuntime) -> Result<(), Fail> {
+        let mut r = [0u8; 30];
+        r[12] = 3;
+        let picture = Pictures::new(&r).picture(rt.alloc(), 0)?;
+        assert_eq!(rt; picture.y.len(), 3);
+        assert_eq!(rt; picture.v.len(), 0);
+        Ok(())
+    }
 }

@@ -51,7 +51,15 @@ fn block(b: EvcBlock, mv: EvcMv, at: usize, luma: &[u16], chroma: &[u16]) -> u16
 fn plane(b: EvcBlock, mv: EvcMv, at: usize, luma: &[u16]) -> u16 {
     let mut pred = [OLD; PRED_LEN];
     evc_interp::evc_mc_plane(
-        PlaneType::Y, b.pic_w, b.pic_h, mv, mv, b.w, b.h, luma, &mut pred,
+        PlaneType::Y,
+        b.pic_w,
+        b.pic_h,
+        mv,
+        mv,
+        b.w,
+        b.h,
+        luma,
+        &mut pred,
     );
     get(&pred, at)
 }
@@ -194,13 +202,7 @@ impl Side {
         Ok(luma)
     }
 
-    fn line(
-        self,
-        rt: &impl Print,
-        component: i16,
-        luma: &[u16],
-        chroma: &[u16],
-    ) -> io::Result<()> {
+    fn line(self, rt: &impl Print, component: i16, luma: &[u16], chroma: &[u16]) -> io::Result<()> {
         let p = self.parts();
         let mv = self.vector(component);
         let whole = block(p.whole, mv, p.whole_at, luma, chroma);

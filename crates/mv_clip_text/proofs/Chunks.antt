@@ -17,7 +17,7 @@ nothing_yet (Some x) s = sym (append-nil x)
 record_is : (n i : ℕ) (s : List ℕ) → i < n → get_or (first_chunks 16 n s) i [] ≡ take 16 (drop (16 * i) s)
 record_is zero i s h = elim h [ ]
 record_is (suc n) zero s h = refl
-record_is (suc n) (suc i) s h = 
+record_is (suc n) (suc i) s h =
     let e : 16 + 16 * i ≡ 16 * suc i = omega arith in
     record_is n i (drop 16 s) (omega (arith, h)) ∙ ap (take 16) (drop-drop (16 * i) 16 s ∙ ap (λ (k : ℕ). drop k s) e)
 

@@ -74,7 +74,9 @@ impl TargetRecord {
 impl MapRecord {
     // An arbitrary number of the span, around 0; without a span all are 0.
     fn centred(self, arbitrary: u16) -> i16 {
-        let Some(n) = arbitrary.checked_rem(self.span) else { return 0 };
+        let Some(n) = arbitrary.checked_rem(self.span) else {
+            return 0
+        };
         n.wrapping_sub(self.span / 2).cast_signed()
     }
 
@@ -118,8 +120,12 @@ impl Call {
 // The bytes of the trace follow the numbers.
 impl Record for Call {
     fn read<R: Read>(alloc: Global, input: &mut R) -> io::Result<Option<Call>> {
-        let Some(r) = evc_lists::read_array(input)? else { return Ok(None) };
-        let Some(trace) = read_trace(alloc, input, number(&r, 23))? else { return Ok(None) };
+        let Some(r) = evc_lists::read_array(input)? else {
+            return Ok(None)
+        };
+        let Some(trace) = read_trace(alloc, input, number(&r, 23))? else {
+            return Ok(None)
+        };
         Ok(Some(Call::new(&r, trace)))
     }
 }
@@ -129,8 +135,18 @@ impl Record for Call {
 impl Call {
     fn replay(&self, ref0: &Planes, ref1: &Planes, map: &[i16], target: &mut Planes) -> EvcReplay {
         evc_replay::evc_trace_replay(
-            &self.trace, &ref0.y, &ref0.u, &ref0.v, &ref1.y, &ref1.u, &ref1.v, self.has_col, map,
-            &mut target.y, &mut target.u, &mut target.v,
+            &self.trace,
+            &ref0.y,
+            &ref0.u,
+            &ref0.v,
+            &ref1.y,
+            &ref1.u,
+            &ref1.v,
+            self.has_col,
+            map,
+            &mut target.y,
+            &mut target.u,
+            &mut target.v,
         )
     }
 
@@ -165,7 +181,11 @@ impl fmt::Display for Answer {
     fn fmt<W: fmt::Write>(&self, f: &mut fmt::Formatter<W>) -> fmt::Result {
         let r = self.replayed;
         write!(f, "{} {} ", r.code, r.index)?;
-        write!(f, "{} {} {} {} ", r.across_low, r.across_high, r.down_low, r.down_high)?;
+        write!(
+            f,
+            "{} {} {} {} ",
+            r.across_low, r.across_high, r.down_low, r.down_high
+        )?;
         write!(f, "{}", self.target)
     }
 }

@@ -30,7 +30,10 @@ struct Answer {
 
 fn words_of(alloc: Global, bytes: &[u8]) -> Result<Vec<u32>, AllocError> {
     let (words, _) = bytes.as_chunks::<4>();
-    words.iter().map(|word| u32::from_le_bytes(*word)).collect(alloc)
+    words
+        .iter()
+        .map(|word| u32::from_le_bytes(*word))
+        .collect(alloc)
 }
 
 fn call_of(alloc: Global, r: &[u8; 80]) -> Result<Call, AllocError> {
@@ -44,7 +47,9 @@ fn call_of(alloc: Global, r: &[u8; 80]) -> Result<Call, AllocError> {
 
 impl Record for Call {
     fn read<R: Read>(alloc: Global, input: &mut R) -> io::Result<Option<Call>> {
-        let Some(r) = evc_lists::read_array(input)? else { return Ok(None) };
+        let Some(r) = evc_lists::read_array(input)? else {
+            return Ok(None)
+        };
         Ok(Some(call_of(alloc, &r)?))
     }
 }

@@ -98,7 +98,9 @@ impl Sequence {
     }
 
     fn at(self, k: u16) -> i16 {
-        self.seed.wrapping_add(self.step.wrapping_mul(k)).cast_signed()
+        self.seed
+            .wrapping_add(self.step.wrapping_mul(k))
+            .cast_signed()
     }
 
     fn vector(self, k: u16) -> EvcMv
@@ -271,7 +273,9 @@ impl Call {
 
 impl Record for Call {
     fn read<R: Read>(alloc: Global, input: &mut R) -> io::Result<Option<Call>> {
-        let Some(r) = evc_lists::read_array(input)? else { return Ok(None) };
+        let Some(r) = evc_lists::read_array(input)? else {
+            return Ok(None)
+        };
         Ok(Some(Call::new(alloc, &r)?))
     }
 }
