@@ -2,7 +2,7 @@
 //! rust/README.md has the records.
 #![tactic(auto)]
 
-ghost use Rattle.std.specs.Prelude.{◌≡◌, ◌+◌, ◌*◌, ◌<◌, ◌≤◌, [], ◌∷◌, ◌++◌, min, length, map, vec_len, Some, IfOk, IfSome, OnOk, IsTrue};
+ghost use Rattle.std.specs.Prelude.{◌≡◌, ◌+◌, ◌*◌, ◌<◌, ◌≤◌, [], ◌∷◌, ◌++◌, min, get_or, length, map, vec_len, Some, IfOk, IfSome, OnOk, IsTrue};
 ghost use Rattle.std.specs.Io.KnownBytes.{Appends, Consumes};
 ghost use Rattle.evc_lists.specs.Units.{word_of, below};
 ghost use Rattle.evc_lists.specs.Printed.{hash, others, spaced, row_line, rows_text};
@@ -58,11 +58,7 @@ pub fn read_array<R: Read, const N: usize>(input: &mut R) -> io::Result<Option<[
     ensures { IfOk result (λ read. IfSome read (Consumes (R.remaining input.old) (R.remaining input.new))) }
 {
     let mut bytes = [0u8; N];
-    Ok(if fill(input, &mut bytes)? {
-        Some(bytes)
-    } else {
-        None
-    })
+    Ok(fill(input, &mut bytes)?.then_some(bytes))
 }
 
 // The next n bytes.
@@ -71,11 +67,7 @@ pub fn read_vec<R: Read>(alloc: Global, input: &mut R, n: usize) -> io::Result<O
     ensures taken { IfOk result (λ read. IfSome read (λ bytes. Consumes (R.remaining input.old) (R.remaining input.new) bytes.items)) }
 {
     let mut bytes = vec![in alloc; 0u8; n]?;
-    Ok(if fill(input, &mut bytes)? {
-        Some(bytes)
-    } else {
-        None
-    })
+    Ok(fill(input, &mut bytes)?.then_some(bytes))
 }
 
 // ---- a record: numbers of two bytes
@@ -207,8 +199,6 @@ pub fn samples_below(alloc: Global, n: usize, seed: u32, limit: u16) -> Result<V
 
 // ---- the pictures of two lists: the first 15 numbers of a record
 
-pub const MAX_PLANE_LEN: usize = 65536;
-
 // The planes of a picture.
 #[derive(Drop)]
 pub struct Planes {
@@ -272,8 +262,9 @@ impl Pictures {
     // Plane k of the six.
     fn plane(&self, alloc: Global, t: PlaneType, k: u16, seed: u32) -> Result<Vec<u16>, AllocError>
         requires { k < 6 }
+        ensures { IfOk result (λ plane. vec_len plane ≡ get_or self.now.lens k 0) }
     {
-        let n = lent(self.lens[usize::from(k)], MAX_PLANE_LEN);
+        let n = usize::from(self.lens[usize::from(k)]);
         let mut plane = samples_below(alloc, n, seed, self.limit)?;
         self.pad(t, &mut plane);
         if self.set_plane == k {
@@ -285,6 +276,9 @@ impl Pictures {
     // The picture of a list, each plane from the next seed on.
     pub fn picture(&self, alloc: Global, list: u16) -> Result<Planes, AllocError>
         requires { list < 2 }
+        ensures { IfOk result (λ planes. (vec_len planes.y ≡ get_or self.now.lens (3 * list) 0)
+            × (vec_len planes.u ≡ get_or self.now.lens (3 * list + 1) 0)
+            × (vec_len planes.v ≡ get_or self.now.lens (3 * list + 2) 0)) }
     {
         let seed = u32::from(self.seeds[usize::from(list)]);
         let k = 3 * list;
