@@ -43,7 +43,7 @@ fn map_of(alloc: Global, bytes: &[u8]) -> Result<Vec<i16>, AllocError> {
     let (numbers, _) = bytes.as_chunks::<2>();
     numbers
         .iter()
-        .map(|number| i16::from_le_bytes(*number))
+        .map(|number| evc_bytes::i16_at(number, 0))
         .collect(alloc)
 }
 

@@ -43,7 +43,7 @@ pub fn for_each_record<R: Read, T: Record, F: FnMut(&mut R, T) -> io::Result<()>
 }
 
 // Fills the bytes from the input; false where it has no more.
-fn fill<R: Read>(input: &mut R, bytes: &mut [u8]) -> io::Result<bool>
+pub fn read<R: Read>(input: &mut R, bytes: &mut [u8]) -> io::Result<bool>
     ensures { IfOk result (λ more. IsTrue more → Consumes (R.remaining input.old) (R.remaining input.new) bytes.new) }
 {
     match input.read_exact(bytes) {
@@ -58,7 +58,7 @@ pub fn read_array<R: Read, const N: usize>(input: &mut R) -> io::Result<Option<[
     ensures { IfOk result (λ read. IfSome read (Consumes (R.remaining input.old) (R.remaining input.new))) }
 {
     let mut bytes = [0u8; N];
-    Ok(fill(input, &mut bytes)?.then_some(bytes))
+    Ok(read(input, &mut bytes)?.then_some(bytes))
 }
 
 // The next n bytes.
@@ -67,7 +67,7 @@ pub fn read_vec<R: Read>(alloc: Global, input: &mut R, n: usize) -> io::Result<O
     ensures taken { IfOk result (λ read. IfSome read (λ bytes. Consumes (R.remaining input.old) (R.remaining input.new) bytes.items)) }
 {
     let mut bytes = vec![in alloc; 0u8; n]?;
-    Ok(fill(input, &mut bytes)?.then_some(bytes))
+    Ok(read(input, &mut bytes)?.then_some(bytes))
 }
 
 // ---- a record: numbers of two bytes
@@ -166,7 +166,7 @@ impl Iterator for Sequence {
     }
 }
 
-fn scatter(samples: &mut [u16], seed: u32) {
+pub fn scatter(samples: &mut [u16], seed: u32) {
     for (sample, arbitrary) in samples.iter_mut().zip(Sequence(seed)) {
         *sample = arbitrary;
     }
@@ -189,11 +189,21 @@ pub fn reduce(samples: &mut [u16], limit: u16)
     }
 }
 
-pub fn samples_below(alloc: Global, n: usize, seed: u32, limit: u16) -> Result<Vec<u16>, AllocError>
+pub fn fill(samples: &mut [u16], seed: u32, limit: u16) {
+    scatter(samples, seed);
+    reduce(samples, limit);
+}
+
+pub fn samples_below(
+    alloc: Global,
+    n: usize,
+    seed: u32,
+    limit: u16,
+) -> Result<Vec<u16>, AllocError>
     ensures { IfOk result (λ samples. vec_len samples ≡ n) }
 {
-    let mut samples = samples(alloc, n, seed)?;
-    reduce(&mut samples, limit);
+    let mut samples = vec![in alloc; 0u16; n]?;
+    fill(&mut samples, seed, limit);
     Ok(samples)
 }
 
