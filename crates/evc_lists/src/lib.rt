@@ -194,12 +194,7 @@ pub fn fill(samples: &mut [u16], seed: u32, limit: u16) {
     reduce(samples, limit);
 }
 
-pub fn samples_below(
-    alloc: Global,
-    n: usize,
-    seed: u32,
-    limit: u16,
-) -> Result<Vec<u16>, AllocError>
+pub fn samples_below(alloc: Global, n: usize, seed: u32, limit: u16) -> Result<Vec<u16>, AllocError>
     ensures { IfOk result (λ samples. vec_len samples ≡ n) }
 {
     let mut samples = vec![in alloc; 0u16; n]?;
@@ -231,7 +226,7 @@ pub struct Pictures {
     pub set_value: u16,
 }
 
-// One sample, if the plane is that long.
+// One sample, if the plane is that long. `get_mut` would need the same `if`.
 fn set_sample(plane: &mut [u16], place: usize, value: u16) {
     if place < plane.len() {
         plane[place] = value;

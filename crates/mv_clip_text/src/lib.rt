@@ -89,7 +89,8 @@ fn print_text<W: Write>(out: &mut W, records: &[u8]) -> io::Result<()>
 
 // ---- the program
 
-// Reads until the buffer is full or the input ends, and returns how many bytes that were.
+// Reads until the buffer is full or the input ends, and returns how many bytes that were: of an input that ends, `read_exact` does not tell, and
+// `read_to_end` takes memory, which a library here does not.
 fn read_full<R: Read>(input: &mut R, bytes: &mut [u8]) -> io::Result<usize>
     ensures upper_bound { IfOk result (λ n. n ≤ length bytes.new) }
     ensures taken { IfOk result (λ n. Consumes (R.remaining input.old) (R.remaining input.new) (take n bytes.new)) }

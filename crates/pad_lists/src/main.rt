@@ -51,7 +51,7 @@ impl Record for Call {
 }
 
 impl Call {
-    // Each row of the picture, if the plane has all of it.
+    // Each row of the picture, if the plane has all of it. Rows may overlap, so that they are no chunks.
     fn reduce_picture(&self, plane: &mut [u16]) {
         for y in 0..self.height {
             let at = usize::from(self.first) + usize::from(y) * usize::from(self.stride);
