@@ -1,111 +1,108 @@
 //! Calls for the camera movement: for each a line with the number returned, the reading and the bits of both means. rust/README.md has the records.
 #![tactic(auto)]
 
-ghost use Rattle.std.specs.Prelude.{◌*◌, ◌≤◌, length};
+ghost use Rattle.std.specs.Prelude.{◌*◌, ◌≤◌, vec_len, IfOk, IfSome};
+ghost use Rattle.camera_lists.specs.declared.TheConstants.{MAX_WORDS};
 
 use evc_camera::EvcCamera;
-use evc_lists::MAX_RECORDS;
-use std::io;
-use std::io::{Read, Write};
+use evc_lists::{MAX_RECORDS, Record, number, number32};
+use std::alloc::{AllocError, Global};
+use std::io::Read;
+use std::{fmt, io};
 
 const MAX_WORDS: usize = 100;
 
 const MAX_MAP_LEN: usize = 400;
 
-const MAX_MAP_BYTES: usize = 2 * MAX_MAP_LEN;
-
-// The numbers of a record; a state for each word lent and the numbers of the map follow it.
-const RECORD_LEN: usize = 8;
-
-const PIC_W: usize = 0;
-
-const PIC_H: usize = 1;
-
-const WORDS_LEN: usize = 2;
-
-const MAP_LEN: usize = 3;
-
-type Record = [u8; RECORD_LEN];
-
-// Of a NaN, which no mean is, the bits cannot be read.
-fn print_bits(out: &mut impl Write, v: f64) -> io::Result<()> {
-    out.write_all(b" ")?;
-    if v == v {
-        let bits = f64::to_bits(v);
-        write!(out, "{bits:016x}")?;
-    }
-    Ok(())
+#[derive(Drop)]
+struct Call {
+    pic_w: u32,
+    pic_h: u32,
+    words: Vec<u32>,
+    map: Vec<i16>,
 }
 
-fn print_answer(out: &mut impl Write, answer: EvcCamera) -> io::Result<()> {
-    evc_lists::print(out, answer.code as u64)?;
-    evc_lists::print_next(out, answer.kind as u64)?;
-    print_bits(out, answer.x)?;
-    print_bits(out, answer.y)?;
-    evc_lists::end_line(out)
-}
+// What a line prints.
+#[derive(Clone, Copy)]
+struct Answer(EvcCamera);
 
-fn fill_map(map: &mut [i16], bytes: &[u8])
-    requires { 2 * length map.old ≤ length bytes.now }
+// The bits of a mean. Of a NaN, which no mean is, they cannot be read.
+#[derive(Clone, Copy)]
+struct Bits(f64);
+
+// ---- a record
+
+fn read_states<R: Read>(alloc: Global, input: &mut R, asked: u16) -> io::Result<Option<Vec<u8>>>
+    ensures { IfOk result (λ read. IfSome read (λ states. vec_len states ≤ MAX_WORDS)) }
 {
-    for i in 0..map.len() {
-        map[i] = evc_bytes::i16_at(bytes, 2 * i);
+    let n = evc_lists::lent(asked, MAX_WORDS);
+    evc_lists::read_vec(alloc, input, n)
+}
+
+fn map_of(alloc: Global, bytes: &[u8]) -> Result<Vec<i16>, AllocError> {
+    let (numbers, _) = bytes.as_chunks::<2>();
+    numbers
+        .iter()
+        .map(|number| evc_bytes::i16_at(number, 0))
+        .collect(alloc)
+}
+
+// A state for each word lent and the numbers of the map follow the first four numbers.
+impl Record for Call {
+    fn read<R: Read>(alloc: Global, input: &mut R) -> io::Result<Option<Call>> {
+        let Some(r) = evc_lists::read_array::<R, 8>(input)? else {
+            return Ok(None)
+        };
+        let Some(states) = read_states(alloc, input, number(&r, 2))? else {
+            return Ok(None)
+        };
+        let n = 2 * evc_lists::lent(number(&r, 3), MAX_MAP_LEN);
+        let Some(bytes) = evc_lists::read_vec(alloc, input, n)? else {
+            return Ok(None)
+        };
+        Ok(Some(Call {
+            pic_w: number32(&r, 0),
+            pic_h: number32(&r, 1),
+            words: evc_lists::words_of(alloc, &states)?,
+            map: map_of(alloc, &bytes)?,
+        }))
     }
 }
 
-fn run_call(
-    out: &mut impl Write,
-    r: &Record,
-    states: &[u8; MAX_WORDS],
-    bytes: &[u8; MAX_MAP_BYTES],
-) -> io::Result<()> {
-    let mut words = [0u32; MAX_WORDS];
-    let mut map = [0i16; MAX_MAP_LEN];
-    evc_lists::fill_words(&mut words, states);
-    fill_map(&mut map, bytes);
-    let n = evc_lists::lent(r, WORDS_LEN, MAX_WORDS);
-    let m = evc_lists::lent(r, MAP_LEN, MAX_MAP_LEN);
-    let w = evc_lists::number32(r, PIC_W);
-    let h = evc_lists::number32(r, PIC_H);
-    print_answer(
-        out,
-        evc_camera::evc_camera_motion(w, h, &map[..m], &words[..n]),
-    )
+// ---- a call
+
+impl Call {
+    fn answer(&self) -> Answer {
+        Answer(evc_camera::evc_camera_motion(self.pic_w, self.pic_h, &self.map, &self.words))
+    }
 }
 
-fn read_first(input: &mut impl Read, bytes: &mut [u8], n: usize) -> io::Result<bool>
-    requires { n ≤ length bytes.old }
-{
-    evc_lists::read(input, &mut bytes[..n])
+impl fmt::Display for Bits {
+    fn fmt<W: fmt::Write>(&self, f: &mut fmt::Formatter<W>) -> fmt::Result {
+        if self.0.is_nan() {
+            return Ok(());
+        }
+        write!(f, "{:016x}", self.0.to_bits())
+    }
 }
 
-// The next call; false at the end of the input.
-fn next(input: &mut impl Read, out: &mut impl Write) -> io::Result<bool> {
-    let mut r = [0u8; RECORD_LEN];
-    let mut states = [0u8; MAX_WORDS];
-    let mut bytes = [0u8; MAX_MAP_BYTES];
-    if !evc_lists::read(input, &mut r)? {
-        return Ok(false);
+impl fmt::Display for Answer {
+    fn fmt<W: fmt::Write>(&self, f: &mut fmt::Formatter<W>) -> fmt::Result {
+        write!(
+            f,
+            "{} {} {} {}",
+            self.0.code,
+            self.0.kind,
+            Bits(self.0.x),
+            Bits(self.0.y)
+        )
     }
-    let n = evc_lists::lent(&r, WORDS_LEN, MAX_WORDS);
-    let m = evc_lists::lent(&r, MAP_LEN, MAX_MAP_LEN);
-    if !read_first(input, &mut states, n)? {
-        return Ok(false);
-    }
-    if !read_first(input, &mut bytes, 2 * m)? {
-        return Ok(false);
-    }
-    run_call(out, &r, &states, &bytes)?;
-    Ok(true)
 }
 
 fn main(rt: HostRuntime) -> io::Result<()> {
-    let mut input = rt.reader();
+    let alloc = rt.alloc();
     let mut out = io::writer(&rt);
-    for _ in 0..MAX_RECORDS {
-        if !next(&mut input, &mut out)? {
-            break;
-        }
-    }
-    Ok(())
+    evc_lists::for_each_record(alloc, &mut rt.reader(), MAX_RECORDS, |_, call: Call| {
+        evc_lists::print_line(&mut out, call.answer())
+    })
 }

@@ -10,6 +10,7 @@ use evc_direct::Pocs;
 use evc_mc::{EvcList, PRED_LEN};
 use evc_motion::EvcCandidates;
 use evc_plane::PlaneType;
+use std::alloc::{AllocError, Global};
 use std::io;
 
 // What a picture of 8128 by 4 needs, and one of 128 by 128 with it.
@@ -21,130 +22,110 @@ const UNITS: usize = 2032;
 
 const MOTION_LEN: usize = 8128;
 
+const NO_MOTION: EvcMv = EvcMv { x: 0, y: 0 };
+
 // ---- the number that each call returns
 
-fn no_motion() -> EvcMv {
-    EvcMv { x: 0, y: 0 }
-}
-
 fn flags(b: EvcBlock) -> u32 {
-    let map_scu = [0u32; UNITS];
-    let r = evc_avail::evc_get_avail_inter(b, &map_scu);
-    r.code
+    evc_avail::evc_get_avail_inter(b, &[0; UNITS]).code
 }
 
 fn candidates(b: EvcBlock) -> u32 {
-    let map = [0i16; MOTION_LEN];
+    let map = [0; MOTION_LEN];
     let old = EvcCandidates {
-        left: no_motion(),
-        up: no_motion(),
-        up_right: no_motion(),
-        collocated: no_motion(),
-        refi: [0i8; 4],
+        left: NO_MOTION,
+        up: NO_MOTION,
+        up_right: NO_MOTION,
+        collocated: NO_MOTION,
+        refi: [0; 4],
     };
-    let r = evc_motion::get_motion(b, 0, 0, &map, true, &map, old);
-    r.code
+    evc_motion::get_motion(b, 0, 0, &map, true, &map, old).code
 }
 
 fn direct(b: EvcBlock, poc: u32) -> u32 {
-    let map = [0i16; MOTION_LEN];
     let pocs = Pocs {
         poc,
         poc0: 0,
         poc1: 2,
         list_poc0: 1,
     };
-    let r = evc_direct::evc_get_mv_dir(b, pocs, true, &map);
-    r.code
+    evc_direct::evc_get_mv_dir(b, pocs, true, &[0; MOTION_LEN]).code
 }
 
 fn clipping(b: EvcBlock) -> u32 {
-    let r = evc_clip::mv_clip(b, no_motion());
-    r.code
+    evc_clip::mv_clip(b, NO_MOTION).code
+}
+
+fn padding(t: PlaneType, b: EvcBlock, plane: &mut [u16]) -> u32 {
+    evc_pad::pad(t, b.pic_w, b.pic_h, plane)
 }
 
 fn one_plane(t: PlaneType, b: EvcBlock, w: u32, h: u32, plane: &[u16]) -> u32 {
-    let mut pred = [0u16; PRED_LEN];
+    let mut pred = [0; PRED_LEN];
     evc_interp::evc_mc_plane(
-        t,
-        b.pic_w,
-        b.pic_h,
-        no_motion(),
-        no_motion(),
-        w,
-        h,
-        plane,
-        &mut pred,
+        t, b.pic_w, b.pic_h, NO_MOTION, NO_MOTION, w, h, plane, &mut pred,
     )
+}
+
+fn list_of(poc: u32) -> EvcList {
+    EvcList {
+        used: true,
+        mv: NO_MOTION,
+        poc,
+    }
 }
 
 // From two lists with the same planes.
 fn block(b: EvcBlock, poc: u32, luma: &[u16], chroma: &[u16]) -> u32 {
-    let mut pred0 = [0u16; PRED_LEN];
-    let mut pred1 = [0u16; PRED_LEN];
-    let list0 = EvcList {
-        used: true,
-        mv: no_motion(),
-        poc: 0,
-    };
-    let list1 = EvcList {
-        used: true,
-        mv: no_motion(),
-        poc,
-    };
-    let r = evc_mc::evc_mc2(
+    let mut pred0 = [0; PRED_LEN];
+    let mut pred1 = [0; PRED_LEN];
+    let list0 = list_of(0);
+    let list1 = list_of(poc);
+    let got = evc_mc::evc_mc2(
         b, list0, luma, chroma, chroma, list1, luma, chroma, chroma, &mut pred0, &mut pred1,
     );
-    r.code
+    got.code
 }
 
 // ---- what is printed
 
-fn print(rt: &impl Print, name: &str, n: u32) -> io::Result<()> {
-    print!(rt; "{name}{n}")
-}
-
-fn end_line(rt: &impl Print) -> io::Result<()> {
-    println!(rt)
-}
-
 fn print_vectors(rt: &impl Print, b: EvcBlock) -> io::Result<()> {
-    print(rt, " flags ", flags(b))?;
-    print(rt, ", candidates ", candidates(b))?;
-    print(rt, ", direct vectors ", direct(b, 0))?;
-    print(rt, ", clipping ", clipping(b))
-}
-
-fn print_padding(
-    rt: &impl Print,
-    b: EvcBlock,
-    luma: &mut [u16],
-    chroma: &mut [u16],
-) -> io::Result<()> {
-    print(
-        rt,
-        " padding luma ",
-        evc_pad::pad(PlaneType::Y, b.pic_w, b.pic_h, luma),
-    )?;
-    print(
-        rt,
-        ", padding chroma ",
-        evc_pad::pad(PlaneType::UV, b.pic_w, b.pic_h, chroma),
+    print!(rt;
+        " flags {}, candidates {}, direct vectors {}, clipping {}",
+        flags(b),
+        candidates(b),
+        direct(b, 0),
+        clipping(b)
     )
 }
 
-fn print_prediction(rt: &impl Print, b: EvcBlock, luma: &[u16], chroma: &[u16]) -> io::Result<()> {
-    print(
-        rt,
-        ", luma plane ",
-        one_plane(PlaneType::Y, b, b.w, b.h, luma),
-    )?;
-    print(
-        rt,
-        ", chroma plane ",
-        one_plane(PlaneType::UV, b, b.w / 2, b.h / 2, chroma),
-    )?;
-    print(rt, ", block ", block(b, 0, luma, chroma))
+// The planes of a picture.
+#[derive(Drop)]
+struct Planes {
+    luma: Vec<u16>,
+    chroma: Vec<u16>,
+}
+
+impl Planes {
+    fn new(alloc: Global) -> Result<Planes, AllocError> {
+        Ok(Planes {
+            luma: vec![in alloc; 0; LUMA_LEN]?,
+            chroma: vec![in alloc; 0; CHROMA_LEN]?,
+        })
+    }
+
+    fn print_padding(&mut self, rt: &impl Print, b: EvcBlock) -> io::Result<()> {
+        let luma = padding(PlaneType::Y, b, &mut self.luma);
+        let chroma = padding(PlaneType::UV, b, &mut self.chroma);
+        print!(rt; " padding luma {luma}, padding chroma {chroma}")
+    }
+
+    fn print_prediction(&self, rt: &impl Print, b: EvcBlock) -> io::Result<()> {
+        let luma = one_plane(PlaneType::Y, b, b.w, b.h, &self.luma);
+        let chroma = one_plane(PlaneType::UV, b, b.w / 2, b.h / 2, &self.chroma);
+        let block = block(b, 0, &self.luma, &self.chroma);
+        println!(rt; ", luma plane {luma}, chroma plane {chroma}, block {block}")
+    }
 }
 
 // ---- the lines
@@ -164,100 +145,70 @@ fn print_stride(rt: &impl Print, name: &str, t: PlaneType, pic_w: u32) -> io::Re
     requires { bad_picture pic_w 4 ≡ false }
 {
     let c = evc_plane::plane_config(t, pic_w, 4);
-    let width = c.width;
-    let stride = c.stride;
-    println!(rt; "{name}{width}: stride {stride}")
+    println!(rt; "{name} width {}: stride {}", c.width, c.stride)
 }
 
-fn width_line(rt: &impl Print, pic_w: u32, luma: &mut [u16], chroma: &mut [u16]) -> io::Result<()> {
-    let b = square(pic_w, 4, 4);
-    print(rt, "W ", pic_w)?;
-    print!(rt; ":")?;
-    print_vectors(rt, b)?;
-    print!(rt; ",")?;
-    print_padding(rt, b, luma, chroma)?;
-    print_prediction(rt, b, luma, chroma)?;
-    end_line(rt)
+#[tactic(auto, unfolding(evc_def::specs::Blocks::bad_picture))]
+fn print_strides(rt: &impl Print, name: &str, t: PlaneType) -> io::Result<()> {
+    print_stride(rt, name, t, 4)?;
+    print_stride(rt, name, t, 8128)
 }
 
-fn side_line(rt: &impl Print, side: u32, luma: &[u16], chroma: &[u16]) -> io::Result<()> {
-    let b = square(128, 128, side);
-    print(rt, "side ", side)?;
-    print!(rt; ":")?;
-    print_vectors(rt, b)?;
-    print_prediction(rt, b, luma, chroma)?;
-    end_line(rt)
-}
+impl Planes {
+    fn width_line(&mut self, rt: &impl Print, pic_w: u32) -> io::Result<()> {
+        let b = square(pic_w, 4, 4);
+        print!(rt; "W {pic_w}:")?;
+        print_vectors(rt, b)?;
+        print!(rt; ",")?;
+        self.print_padding(rt, b)?;
+        self.print_prediction(rt, b)
+    }
 
-fn count_line(rt: &impl Print, poc: u32, luma: &[u16], chroma: &[u16]) -> io::Result<()> {
-    let b = square(128, 128, 8);
-    print(rt, "count ", poc)?;
-    print(rt, ": direct vectors ", direct(b, poc))?;
-    print(rt, ", block ", block(b, poc, luma, chroma))?;
-    end_line(rt)
-}
+    fn side_line(&self, rt: &impl Print, side: u32) -> io::Result<()> {
+        let b = square(128, 128, side);
+        print!(rt; "side {side}:")?;
+        print_vectors(rt, b)?;
+        self.print_prediction(rt, b)
+    }
 
-fn fill(plane: &mut [u16], sample: u16) {
-    for i in 0..plane.len() {
-        plane[i] = sample;
+    fn count_line(&self, rt: &impl Print, poc: u32) -> io::Result<()> {
+        let b = square(128, 128, 8);
+        let block = block(b, poc, &self.luma, &self.chroma);
+        println!(rt;
+            "count {poc}: direct vectors {}, block {block}",
+            direct(b, poc)
+        )
+    }
+
+    // Every sample of the planes is this one.
+    fn sample_line(&mut self, rt: &impl Print, sample: u16) -> io::Result<()> {
+        let b = square(128, 128, 8);
+        self.luma.fill(sample);
+        self.chroma.fill(sample);
+        print!(rt; "sample {sample}:")?;
+        self.print_padding(rt, b)?;
+        self.print_prediction(rt, b)
     }
 }
 
-// Every sample of the planes is this one.
-fn sample_line(
-    rt: &impl Print,
-    sample: u16,
-    luma: &mut [u16],
-    chroma: &mut [u16],
-) -> io::Result<()> {
-    let b = square(128, 128, 8);
-    fill(luma, sample);
-    fill(chroma, sample);
-    print(rt, "sample ", sample as u32)?;
-    print!(rt; ":")?;
-    print_padding(rt, b, luma, chroma)?;
-    print_prediction(rt, b, luma, chroma)?;
-    end_line(rt)
-}
-
-fn width_lines(rt: &impl Print, luma: &mut [u16], chroma: &mut [u16]) -> io::Result<()> {
-    width_line(rt, 8128, luma, chroma)?;
-    width_line(rt, 8132, luma, chroma)
-}
-
-fn side_lines(rt: &impl Print, luma: &[u16], chroma: &[u16]) -> io::Result<()> {
-    side_line(rt, 64, luma, chroma)?;
-    side_line(rt, 12, luma, chroma)?;
-    side_line(rt, 128, luma, chroma)
-}
-
-fn count_lines(rt: &impl Print, luma: &[u16], chroma: &[u16]) -> io::Result<()> {
-    count_line(rt, 32767, luma, chroma)?;
-    count_line(rt, 32768, luma, chroma)
-}
-
-fn sample_lines(rt: &impl Print, luma: &mut [u16], chroma: &mut [u16]) -> io::Result<()> {
-    sample_line(rt, 1023, luma, chroma)?;
-    sample_line(rt, 1024, luma, chroma)
-}
-
-fn lines(rt: &impl Print, luma: &mut [u16], chroma: &mut [u16]) -> io::Result<()> {
-    width_lines(rt, luma, chroma)?;
-    side_lines(rt, luma, chroma)?;
-    count_lines(rt, luma, chroma)?;
-    sample_lines(rt, luma, chroma)
-}
-
-fn strides(rt: &impl Print) -> io::Result<()> {
-    print_stride(rt, "luma width ", PlaneType::Y, 4)?;
-    print_stride(rt, "luma width ", PlaneType::Y, 8128)?;
-    print_stride(rt, "chroma width ", PlaneType::UV, 4)?;
-    print_stride(rt, "chroma width ", PlaneType::UV, 8128)
+fn lines(rt: &impl Print, planes: &mut Planes) -> io::Result<()> {
+    [8128, 8132]
+        .iter()
+        .try_for_each(|pic_w| planes.width_line(rt, *pic_w))?;
+    [64, 12, 128]
+        .iter()
+        .try_for_each(|side| planes.side_line(rt, *side))?;
+    [32767, 32768]
+        .iter()
+        .try_for_each(|poc| planes.count_line(rt, *poc))?;
+    [1023, 1024]
+        .iter()
+        .try_for_each(|sample| planes.sample_line(rt, *sample))
 }
 
 fn main(rt: HostRuntime) -> io::Result<()> {
-    strides(&rt)?;
-    let mut luma = [0u16; LUMA_LEN];
-    let mut chroma = [0u16; CHROMA_LEN];
-    lines(&rt, &mut luma, &mut chroma)
+    print_strides(&rt, "luma", PlaneType::Y)?;
+    print_strides(&rt, "chroma", PlaneType::UV)?;
+    let mut planes = Planes::new(rt.alloc())?;
+    lines(&rt, &mut planes)
 }

@@ -1,36 +1,76 @@
-//! What the programs that replay lists share: the numbers of a record, how much of a buffer is lent, arbitrary samples, the pictures of two lists, and what is
-//! printed. rust/README.md has the records.
+//! What the programs that replay lists share: a list's records and their numbers, arbitrary samples, the pictures of two lists, and what is printed.
+//! rust/README.md has the records.
 #![tactic(auto)]
 
-ghost use Rattle.std.specs.Prelude.{◌+◌, ◌*◌, ◌<◌, ◌≤◌, [], ◌∷◌, length, decimal, IfOk, OnOk, IsTrue};
-ghost use Rattle.std.specs.Fmt.{signed_decimal};
+ghost use Rattle.std.specs.Prelude.{◌≡◌, ◌+◌, ◌*◌, ◌<◌, ◌≤◌, [], ◌∷◌, ◌++◌, min, get_or, length, map, vec_len, Some, IfOk, IfSome, OnOk, IsTrue};
 ghost use Rattle.std.specs.Io.KnownBytes.{Appends, Consumes};
+ghost use Rattle.evc_lists.specs.Units.{word_of, below};
+ghost use Rattle.evc_lists.specs.Printed.{hash, others, spaced, row_line, rows_text};
 
 use evc_def::{EvcBlock, EvcMv};
 use evc_plane::PlaneType;
-use std::io;
+use std::alloc::{AllocError, Global};
+use std::fmt::Display;
 use std::io::{ErrorKind, Read, Write};
+use std::{fmt, io};
+
+// ---- the records of a list
 
 // A proved loop has to end, and nothing says that the input does: more records than any list has.
 pub const MAX_RECORDS: usize = 65536;
 
-// ---- a record: numbers of two bytes
+// What stands in a list reads itself; None where the input has no more.
+pub trait Record: Drop {
+    fn read<R: Read>(alloc: Global, input: &mut R) -> io::Result<Option<Self>>;
+}
 
-// The next bytes of the input; false where it has no more.
+// Runs the next records, `most` of them or as many as there are. A record's step may read what follows it.
+pub fn for_each_record<R: Read, T: Record, F: FnMut(&mut R, T) -> io::Result<()>>(
+    alloc: Global,
+    input: &mut R,
+    most: usize,
+    mut run: F,
+) -> io::Result<()>
+    requires { F.IsAlwaysCallable run }
+{
+    for _ in 0..most {
+        let Some(record) = T::read(alloc, input)? else {
+            break
+        };
+        run(input, record)?;
+    }
+    Ok(())
+}
+
+// Fills the bytes from the input; false where it has no more.
 pub fn read<R: Read>(input: &mut R, bytes: &mut [u8]) -> io::Result<bool>
     ensures { IfOk result (λ more. IsTrue more → Consumes (R.remaining input.old) (R.remaining input.new) bytes.new) }
 {
     match input.read_exact(bytes) {
         Ok(()) => Ok(true),
-        Err(e) => {
-            if e.kind() == ErrorKind::UnexpectedEof {
-                Ok(false)
-            } else {
-                Err(e)
-            }
-        }
+        Err(e) if e.kind() == ErrorKind::UnexpectedEof => Ok(false),
+        Err(e) => Err(e),
     }
 }
+
+// The next N bytes of the input; None where it has no more.
+pub fn read_array<R: Read, const N: usize>(input: &mut R) -> io::Result<Option<[u8; N]>>
+    ensures { IfOk result (λ read. IfSome read (Consumes (R.remaining input.old) (R.remaining input.new))) }
+{
+    let mut bytes = [0u8; N];
+    Ok(read(input, &mut bytes)?.then_some(bytes))
+}
+
+// The next n bytes.
+pub fn read_vec<R: Read>(alloc: Global, input: &mut R, n: usize) -> io::Result<Option<Vec<u8>>>
+    ensures length { IfOk result (λ read. IfSome read (λ bytes. vec_len bytes ≡ n)) }
+    ensures taken { IfOk result (λ read. IfSome read (λ bytes. Consumes (R.remaining input.old) (R.remaining input.new) bytes.items)) }
+{
+    let mut bytes = vec![in alloc; 0u8; n]?;
+    Ok(read(input, &mut bytes)?.then_some(bytes))
+}
+
+// ---- a record: numbers of two bytes
 
 pub fn number(r: &[u8], k: usize) -> u16
     requires { 2 * k + 2 ≤ length r.now }
@@ -42,7 +82,7 @@ pub fn number(r: &[u8], k: usize) -> u16
 pub fn number32(r: &[u8], k: usize) -> u32
     requires { 2 * k + 2 ≤ length r.now }
 {
-    let n = number(r, k) as u32;
+    let n = u32::from(number(r, k));
     if n < 0xff00 { n } else { n + 0xffff0000 }
 }
 
@@ -85,13 +125,11 @@ pub fn plane_type(r: &[u8], k: usize) -> PlaneType
     }
 }
 
-// A length that the record asks for, at most as long as what there is to lend.
-pub fn lent(r: &[u8], k: usize, most: usize) -> usize
-    requires { 2 * k + 2 ≤ length r.now }
-    ensures { result ≤ most }
+// A length that a record asks for, at most as long as what there is to lend.
+pub fn lent(asked: u16, most: usize) -> usize
+    ensures { result ≡ min asked most }
 {
-    let n = number(r, k) as usize;
-    if n < most { n } else { most }
+    usize::from(asked).min(most)
 }
 
 // ---- units
@@ -101,227 +139,271 @@ const WORDS: [u32; 8] = [
     0, 0x80000000, 0x00008000, 0x80008000, 0x7fff7fff, 0xffff7fff, 0x7fffffff, 0xffffffff,
 ];
 
-fn word_of(state: u8) -> u32 {
-    WORDS[(state % 8) as usize]
+fn word_of(state: u8) -> u32
+    ensures { result ≡ word_of state }
+{
+    WORDS[usize::from(state % 8)]
 }
 
-pub fn fill_words(words: &mut [u32], states: &[u8])
-    requires { length words.old ≤ length states.now }
+pub fn words_of(alloc: Global, states: &[u8]) -> Result<Vec<u32>, AllocError>
+    ensures { IfOk result (λ words. words.items ≡ map word_of states.now) }
 {
-    for i in 0..words.len() {
-        words[i] = word_of(states[i]);
-    }
+    states.iter().map(|state| word_of(*state)).collect(alloc)
 }
 
 // ---- arbitrary samples
 
-// A linear congruential sequence, so that a record need not hold its samples.
-fn next(z: u64) -> u64
-    requires { z < 2147483648 }
-    ensures { result < 2147483648 }
-{
-    (z * 1103515245 + 12345) % 2147483648
-}
+// A linear congruential sequence from its seed on, so that a record need not hold its samples.
+#[derive(Drop)]
+struct Sequence(u32);
 
-pub fn scatter(samples: &mut [u16], seed: u32)
-    requires { seed < 2147483648 }
-{
-    let mut z = seed as u64;
-    for i in 0..samples.len() {
-        z = next(z);
-        samples[i] = (z / 32768) as u16;
+impl Iterator for Sequence {
+    type Item = u16;
+
+    fn next(&mut self) -> Option<u16> {
+        self.0 = self.0.wrapping_mul(1103515245).wrapping_add(12345) % 0x80000000;
+        Some((self.0 / 0x8000) as u16)
     }
 }
 
-pub fn reduce(samples: &mut [u16], limit: u16)
-    requires { 0 < limit }
-{
-    for i in 0..samples.len() {
-        samples[i] = samples[i] % limit;
+pub fn scatter(samples: &mut [u16], seed: u32) {
+    for (sample, arbitrary) in samples.iter_mut().zip(Sequence(seed)) {
+        *sample = arbitrary;
     }
+}
+
+pub fn samples(alloc: Global, n: usize, seed: u32) -> Result<Vec<u16>, AllocError>
+    ensures { IfOk result (λ samples. vec_len samples ≡ n) }
+{
+    let mut samples = vec![in alloc; 0; n]?;
+    scatter(&mut samples, seed);
+    Ok(samples)
 }
 
 // Below the limit, if there is one.
-pub fn fill(samples: &mut [u16], seed: u32, limit: u16)
-    requires { seed < 2147483648 }
+pub fn reduce(samples: &mut [u16], limit: u16)
+    ensures { samples.new ≡ map (below limit) samples.old }
 {
-    scatter(samples, seed);
-    if 0 < limit {
-        reduce(samples, limit);
+    for sample in samples.iter_mut() {
+        *sample = sample.checked_rem(limit).unwrap_or(*sample);
     }
+}
+
+pub fn fill(samples: &mut [u16], seed: u32, limit: u16) {
+    scatter(samples, seed);
+    reduce(samples, limit);
+}
+
+pub fn samples_below(alloc: Global, n: usize, seed: u32, limit: u16) -> Result<Vec<u16>, AllocError>
+    ensures { IfOk result (λ samples. vec_len samples ≡ n) }
+{
+    let mut samples = vec![in alloc; 0u16; n]?;
+    fill(&mut samples, seed, limit);
+    Ok(samples)
 }
 
 // ---- the pictures of two lists: the first 15 numbers of a record
 
-const PIC_W: usize = 0;
+// The planes of a picture.
+#[derive(Drop)]
+pub struct Planes {
+    pub y: Vec<u16>,
+    pub u: Vec<u16>,
+    pub v: Vec<u16>,
+}
 
-const PIC_H: usize = 1;
+// How the planes of both pictures are made.
+#[derive(Drop)]
+pub struct Pictures {
+    pub pic_w: u32,
+    pub pic_h: u32,
+    pub seeds: [u16; 2],
+    pub limit: u16,
+    pub is_padded: bool,
+    pub lens: [u16; 6],
+    pub set_plane: u16,
+    pub set_place: u16,
+    pub set_value: u16,
+}
 
-// for list 0, then list 1
-const PLANE_SEED: usize = 2;
-
-const LIMIT: usize = 4;
-
-const IS_PADDED: usize = 5;
-
-// for Y, U and V of list 0, then of list 1
-const PLANE_LEN: usize = 6;
-
-const SET_PLANE: usize = 12;
-
-const SET_PLACE: usize = 13;
-
-const SET_VALUE: usize = 14;
-
-pub const MAX_PLANE_LEN: usize = 65536;
-
-pub const PICTURES_LEN: usize = 6 * MAX_PLANE_LEN;
-
-// One sample, if the plane is that long.
+// One sample, if the plane is that long. `get_mut` would need the same `if`.
 fn set_sample(plane: &mut [u16], place: usize, value: u16) {
     if place < plane.len() {
         plane[place] = value;
     }
 }
 
-// Padded, if it is to be and is long enough.
-fn fill_padded(plane: &mut [u16], r: &[u8], t: PlaneType, seed: u32)
-    requires { (30 ≤ length r.now) × (seed < 2147483648) }
-{
-    fill(plane, seed, number(r, LIMIT));
-    if is_one(r, IS_PADDED) {
-        evc_pad::pad(t, number32(r, PIC_W), number32(r, PIC_H), plane);
+impl Pictures {
+    pub fn new(r: &[u8]) -> Pictures
+        requires { 30 ≤ length r.now }
+    {
+        Pictures {
+            pic_w: number32(r, 0),
+            pic_h: number32(r, 1),
+            seeds: [number(r, 2), number(r, 3)],
+            limit: number(r, 4),
+            is_padded: is_one(r, 5),
+            lens: [
+                number(r, 6),
+                number(r, 7),
+                number(r, 8),
+                number(r, 9),
+                number(r, 10),
+                number(r, 11),
+            ],
+            set_plane: number(r, 12),
+            set_place: number(r, 13),
+            set_value: number(r, 14),
+        }
     }
-}
 
-// Plane k of the six.
-fn fill_plane(plane: &mut [u16], r: &[u8], t: PlaneType, k: u16, seed: u32)
-    requires { (30 ≤ length r.now) × (seed < 2147483648) }
-{
-    fill_padded(plane, r, t, seed);
-    if number(r, SET_PLANE) == k {
-        set_sample(plane, number(r, SET_PLACE) as usize, number(r, SET_VALUE));
+    // A plane that is too short to be padded stays.
+    fn pad(&self, t: PlaneType, plane: &mut [u16]) {
+        if self.is_padded {
+            evc_pad::pad(t, self.pic_w, self.pic_h, plane);
+        }
     }
-}
 
-fn make_plane(planes: &mut [u16], r: &[u8], t: PlaneType, k: u16, seed: u32)
-    requires { (393216 ≤ length planes.old) × (30 ≤ length r.now) × (k < 6) × (seed < 2147483648) }
-{
-    let from = MAX_PLANE_LEN * k as usize;
-    let to = from + lent(r, PLANE_LEN + k as usize, MAX_PLANE_LEN);
-    fill_plane(&mut planes[from..to], r, t, k, seed);
-}
+    // Plane k of the six.
+    fn plane(&self, alloc: Global, t: PlaneType, k: u16, seed: u32) -> Result<Vec<u16>, AllocError>
+        requires { k < 6 }
+        ensures { IfOk result (λ plane. vec_len plane ≡ get_or self.now.lens k 0) }
+    {
+        let n = usize::from(self.lens[usize::from(k)]);
+        let mut plane = samples_below(alloc, n, seed, self.limit)?;
+        self.pad(t, &mut plane);
+        if self.set_plane == k {
+            set_sample(&mut plane, usize::from(self.set_place), self.set_value);
+        }
+        Ok(plane)
+    }
 
-// Each plane from the next seed on.
-fn make_picture(planes: &mut [u16], r: &[u8], list: u16)
-    requires { (393216 ≤ length planes.old) × (30 ≤ length r.now) × (list < 2) }
-{
-    let seed = number(r, PLANE_SEED + list as usize) as u32;
-    let k = 3 * list;
-    make_plane(planes, r, PlaneType::Y, k, seed);
-    make_plane(planes, r, PlaneType::UV, k + 1, seed + 1);
-    make_plane(planes, r, PlaneType::UV, k + 2, seed + 2);
-}
-
-pub fn make_pictures(planes: &mut [u16], r: &[u8])
-    requires { (393216 ≤ length planes.old) × (30 ≤ length r.now) }
-{
-    make_picture(planes, r, 0);
-    make_picture(planes, r, 1);
-}
-
-// Plane k as it is lent.
-pub fn plane<'a>(planes: &'a [u16], r: &[u8], k: usize) -> &'a [u16]
-    requires { (393216 ≤ length planes.now) × (30 ≤ length r.now) × (k < 6) }
-{
-    let from = MAX_PLANE_LEN * k;
-    let to = from + lent(r, PLANE_LEN + k, MAX_PLANE_LEN);
-    &planes[from..to]
+    // The picture of a list, each plane from the next seed on.
+    pub fn picture(&self, alloc: Global, list: u16) -> Result<Planes, AllocError>
+        requires { list < 2 }
+        ensures { IfOk result (λ planes. (vec_len planes.y ≡ get_or self.now.lens (3 * list) 0)
+            × (vec_len planes.u ≡ get_or self.now.lens (3 * list + 1) 0)
+            × (vec_len planes.v ≡ get_or self.now.lens (3 * list + 2) 0)) }
+    {
+        let seed = u32::from(self.seeds[usize::from(list)]);
+        let k = 3 * list;
+        Ok(Planes {
+            y: self.plane(alloc, PlaneType::Y, k, seed)?,
+            u: self.plane(alloc, PlaneType::UV, k + 1, seed + 1)?,
+            v: self.plane(alloc, PlaneType::UV, k + 2, seed + 2)?,
+        })
+    }
 }
 
 // ---- what is printed
 
-pub fn print<W: Write>(out: &mut W, n: u64) -> io::Result<()>
-    ensures { OnOk result (Appends (W.contents out.old) (W.contents out.new) (decimal n)) }
+pub fn print_line<W: Write, D: Display + Drop>(out: &mut W, line: D) -> io::Result<()>
+    ensures { OnOk result (IfSome (D.output line) (λ text. Appends (W.contents out.old) (W.contents out.new) (text ++ 10 ∷ []))) }
 {
-    write!(out, "{n}")
-}
-
-// A number behind another.
-pub fn print_next<W: Write>(out: &mut W, n: u64) -> io::Result<()>
-    ensures { OnOk result (Appends (W.contents out.old) (W.contents out.new) (32 ∷ decimal n)) }
-{
-    write!(out, " {n}")
-}
-
-pub fn print_next_signed<W: Write>(out: &mut W, n: i16) -> io::Result<()>
-    ensures { OnOk result (Appends (W.contents out.old) (W.contents out.new) (32 ∷ signed_decimal n)) }
-{
-    write!(out, " {n}")
-}
-
-pub fn end_line<W: Write>(out: &mut W) -> io::Result<()>
-    ensures { OnOk result (Appends (W.contents out.old) (W.contents out.new) (10 ∷ [])) }
-{
-    out.write_all(b"\n")
-}
-
-pub fn wide(sample: u16) -> u64
-    ensures { result < 65536 }
-{
-    sample as u64
+    writeln!(out, "{line}")
 }
 
 // A number that depends on every sample and its place: a polynomial of the samples at 257, modulo a prime.
-pub fn hash(samples: &[u16]) -> u64 {
-    let mut z = 1u64;
-    for i in 0..samples.len() {
-        z = (z * 257 + wide(samples[i])) % 65521;
-    }
-    z
+pub fn hash(samples: &[u16]) -> u32
+    ensures { result ≡ hash samples.now }
+{
+    samples.iter().fold(1, |z, sample| {
+        ((u64::from(z) * 257 + u64::from(*sample)) % 65521) as u32
+    })
 }
 
-fn print_samples(out: &mut impl Write, samples: &[u16]) -> io::Result<()> {
-    for i in 0..samples.len() {
-        if 0 < i {
-            out.write_all(b" ")?;
+// Samples behind another, a space before each.
+#[derive(Clone, Copy)]
+struct Others<'a>(&'a [u16]);
+
+impl<'a> Display for Others<'a> {
+    ghost output = { λ s. Some (others s.0.now) };
+
+    fn fmt<W: fmt::Write>(&self, f: &mut fmt::Formatter<W>) -> fmt::Result {
+        for sample in self.0 {
+            write!(f, " {sample}")?;
         }
-        print(out, wide(samples[i]))?;
+        Ok(())
     }
-    Ok(())
+}
+
+// Samples to be read.
+#[derive(Clone, Copy)]
+struct Spaced<'a>(&'a [u16]);
+
+impl<'a> Display for Spaced<'a> {
+    ghost output = { λ s. Some (spaced s.0.now) };
+
+    fn fmt<W: fmt::Write>(&self, f: &mut fmt::Formatter<W>) -> fmt::Result {
+        match self.0.split_first() {
+            None => Ok(()),
+            Some((first, others)) => write!(f, "{first}{}", Others(others)),
+        }
+    }
 }
 
 // A row is printed whole, or as a number.
-fn print_row(out: &mut impl Write, row: &[u16], whole: bool) -> io::Result<()> {
-    if whole {
-        print_samples(out, row)?;
-    } else {
-        print(out, hash(row))?;
-    }
-    end_line(out)
-}
-
-// Where the row from `at` on ends: the last one may be shorter.
-fn row_end(at: usize, stride: usize, len: usize) -> usize
-    requires { (at < len) × (0 < stride) }
-    ensures { (at < result) × (result ≤ len) }
+fn print_row<W: Write>(out: &mut W, row: &[u16], whole: bool) -> io::Result<()>
+    ensures { OnOk result (Appends (W.contents out.old) (W.contents out.new) (row_line whole row.now)) }
 {
-    if len - at < stride { len } else { at + stride }
+    if whole {
+        print_line(out, Spaced(row))
+    } else {
+        print_line(out, hash(row))
+    }
 }
 
-pub fn print_rows(
-    out: &mut impl Write,
+// The last row may be shorter.
+pub fn print_rows<W: Write>(
+    out: &mut W,
     samples: &[u16],
     stride: usize,
     whole: bool,
 ) -> io::Result<()>
     requires { 0 < stride }
+    ensures { OnOk result (Appends (W.contents out.old) (W.contents out.new) (rows_text stride whole samples.now)) }
 {
-    let mut at = 0;
-    while at < samples.len() {
-        let end = row_end(at, stride, samples.len());
-        print_row(out, &samples[at..end], whole)?;
-        at = end;
+    for row in samples.chunks(stride) {
+        print_row(out, row, whole)?;
     }
     Ok(())
+}
+
+#[cfg(test)]
+mod tests {
+    use super::*;
+    use std::test::Fail;
+
+    #[test]
+    fn makes_words_and_samples(rt: HostRuntime) -> Result<(), Fail> {
+        let alloc = rt.alloc();
+        let words = words_of(alloc, &[1, 2, 7])?;
+        assert_eq!(rt;
+            words.as_slice(),
+            [0x80000000, 0x00008000, 0xffffffff].as_slice()
+        );
+        let samples = samples_below(alloc, 3, 1, 100)?;
+        assert_eq!(rt; samples.as_slice(), [76, 17, 27].as_slice());
+        Ok(())
+    }
+
+    #[test]
+    fn reads_what_there_is(rt: HostRuntime) -> Result<(), Fail> {
+        let mut input = [1u8, 2, 3].as_slice();
+        let two = read_vec(rt.alloc(), &mut input, 2)?;
+        assert_eq!(rt; two.map(|bytes| bytes.len()), Some(2));
+        let more = read_vec(rt.alloc(), &mut input, 2)?;
+        assert!(rt; more.is_none());
+        Ok(())
+    }
+
+    #[test]
+    fn makes_a_picture(rt: HostRuntime) -> Result<(), Fail> {
+        let mut r = [0u8; 30];
+        r[12] = 3;
+        let picture = Pictures::new(&r).picture(rt.alloc(), 0)?;
+        assert_eq!(rt; picture.y.len(), 3);
+        assert_eq!(rt; picture.v.len(), 0);
+        Ok(())
+    }
 }

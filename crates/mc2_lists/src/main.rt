@@ -1,184 +1,196 @@
 //! Calls of block prediction: for each a line with the number returned, the reports of both lists and a number for each of the two blocks. rust/README.md has the records.
 #![tactic(auto)]
 
-ghost use Rattle.std.specs.Prelude.{◌≤◌, ◌<◌, length};
+ghost use Rattle.std.specs.Prelude.{◌+◌, ◌*◌, ◌<◌, ◌≤◌, ◌∷◌, ◌++◌, Some, length, vec_len, IfOk};
+ghost use Rattle.std.specs.Fmt.{decimal};
+ghost use Rattle.mc2_lists.specs.declared.TheConstants.{MAX_BLOCK_LEN};
 
 use evc_clip::EvcMoved;
 use evc_def::EvcBlock;
-use evc_lists::{MAX_RECORDS, PICTURES_LEN};
-use evc_mc::{EvcList, EvcPredicted};
-use std::io;
+use evc_lists::{MAX_RECORDS, Pictures, Planes, Record, number, number32};
+use evc_mc::EvcList;
+use std::alloc::{AllocError, Global};
 use std::io::{Read, Write};
+use std::{fmt, io};
 
 const MAX_BLOCK_LEN: usize = 8192;
 
-const RECORD_LEN: usize = 32;
+// The pictures of both lists, and how many calls on them follow.
+#[derive(Drop)]
+struct PicturesRecord {
+    pictures: Pictures,
+    calls: u16,
+}
 
-type Record = [u8; RECORD_LEN];
+#[derive(Clone, Copy)]
+struct Call {
+    x: u32,
+    y: u32,
+    w: u32,
+    h: u32,
+    list0: EvcList,
+    list1: EvcList,
+    block_lens: [u16; 2],
+    block_seeds: [u16; 2],
+}
 
-// The numbers of a record of pictures, beside those that make them.
-const PIC_W: usize = 0;
+#[derive(Clone, Copy)]
+struct Predicted {
+    code: u32,
+    moved0: EvcMoved,
+    moved1: EvcMoved,
+}
 
-const PIC_H: usize = 1;
+// What a call gives: a line has a number for each block.
+#[derive(Clone, Copy)]
+struct Answer {
+    predicted: Predicted,
+    hash0: u32,
+    hash1: u32,
+}
 
-const CALLS: usize = 15;
-
-// The numbers of a call's record.
-const X: usize = 0;
-
-const Y: usize = 1;
-
-const W: usize = 2;
-
-const H: usize = 3;
-
-const USED: usize = 4;
-
-// vector and count of list 0, then of list 1
-const LIST: usize = 5;
-
-const BLOCK_LEN: usize = 11;
-
-const BLOCK_SEED: usize = 13;
-
-fn block_of(pictures: &Record, r: &Record) -> EvcBlock {
-    EvcBlock {
-        pic_w: evc_lists::number32(pictures, PIC_W),
-        pic_h: evc_lists::number32(pictures, PIC_H),
-        x: evc_lists::number32(r, X),
-        y: evc_lists::number32(r, Y),
-        w: evc_lists::number32(r, W),
-        h: evc_lists::number32(r, H),
+impl From<[u8; 32]> for PicturesRecord {
+    fn from(r: [u8; 32]) -> PicturesRecord {
+        PicturesRecord {
+            pictures: Pictures::new(&r),
+            calls: number(&r, 15),
+        }
     }
 }
 
-fn list_of(r: &Record, used: bool, k: usize) -> EvcList
-    requires { k < 14 }
+// A vector and a count, from number k on.
+fn list_of(r: &[u8; 32], used: bool, k: usize) -> EvcList
+    requires { 2 * k + 6 ≤ length r.now }
 {
     EvcList {
         used,
         mv: evc_lists::vector(r, k),
-        poc: evc_lists::number32(r, k + 2),
+        poc: number32(r, k + 2),
     }
 }
 
-fn predict(
-    pictures: &Record,
-    planes: &[u16],
-    r: &Record,
-    pred0: &mut [u16],
-    pred1: &mut [u16],
-) -> EvcPredicted
-    requires { 393216 ≤ length planes.now }
-{
-    let y0 = evc_lists::plane(planes, pictures, 0);
-    let u0 = evc_lists::plane(planes, pictures, 1);
-    let v0 = evc_lists::plane(planes, pictures, 2);
-    let y1 = evc_lists::plane(planes, pictures, 3);
-    let u1 = evc_lists::plane(planes, pictures, 4);
-    let v1 = evc_lists::plane(planes, pictures, 5);
-    let used = evc_lists::number(r, USED);
-    let list0 = list_of(r, used % 2 == 1, LIST);
-    let list1 = list_of(r, used / 2 == 1, LIST + 3);
-    evc_mc::evc_mc2(
-        block_of(pictures, r),
-        list0,
-        y0,
-        u0,
-        v0,
-        list1,
-        y1,
-        u1,
-        v1,
-        pred0,
-        pred1,
-    )
-}
-
-fn print_moved(out: &mut impl Write, m: EvcMoved) -> io::Result<()> {
-    evc_lists::print_next(out, m.x as u64)?;
-    evc_lists::print_next(out, m.y as u64)
-}
-
-fn print_answer(
-    out: &mut impl Write,
-    answer: EvcPredicted,
-    pred0: &[u16],
-    pred1: &[u16],
-) -> io::Result<()> {
-    evc_lists::print(out, answer.code as u64)?;
-    print_moved(out, answer.moved0)?;
-    print_moved(out, answer.moved1)?;
-    evc_lists::print_next(out, evc_lists::hash(pred0))?;
-    evc_lists::print_next(out, evc_lists::hash(pred1))?;
-    evc_lists::end_line(out)
-}
-
-// The blocks hold arbitrary samples first.
-fn run_blocks(
-    out: &mut impl Write,
-    pictures: &Record,
-    planes: &[u16],
-    r: &Record,
-    pred0: &mut [u16],
-    pred1: &mut [u16],
-) -> io::Result<()>
-    requires { 393216 ≤ length planes.now }
-{
-    evc_lists::scatter(pred0, evc_lists::number(r, BLOCK_SEED) as u32);
-    evc_lists::scatter(pred1, evc_lists::number(r, BLOCK_SEED + 1) as u32);
-    let answer = predict(pictures, planes, r, pred0, pred1);
-    print_answer(out, answer, pred0, pred1)
-}
-
-fn run_call(out: &mut impl Write, pictures: &Record, planes: &[u16], r: &Record) -> io::Result<()>
-    requires { 393216 ≤ length planes.now }
-{
-    let mut pred0 = [0u16; MAX_BLOCK_LEN];
-    let mut pred1 = [0u16; MAX_BLOCK_LEN];
-    let n0 = evc_lists::lent(r, BLOCK_LEN, MAX_BLOCK_LEN);
-    let n1 = evc_lists::lent(r, BLOCK_LEN + 1, MAX_BLOCK_LEN);
-    run_blocks(out, pictures, planes, r, &mut pred0[..n0], &mut pred1[..n1])
-}
-
-// The calls that follow the pictures; at the end of the input there are no more.
-fn run_calls(
-    input: &mut impl Read,
-    out: &mut impl Write,
-    pictures: &Record,
-    planes: &[u16],
-) -> io::Result<()>
-    requires { 393216 ≤ length planes.now }
-{
-    for _ in 0..evc_lists::number(pictures, CALLS) {
-        let mut r = [0u8; RECORD_LEN];
-        if !evc_lists::read(input, &mut r)? {
-            break;
+impl From<[u8; 32]> for Call {
+    fn from(r: [u8; 32]) -> Call {
+        let used = number(&r, 4);
+        Call {
+            x: number32(&r, 0),
+            y: number32(&r, 1),
+            w: number32(&r, 2),
+            h: number32(&r, 3),
+            list0: list_of(&r, used % 2 == 1, 5),
+            list1: list_of(&r, used / 2 == 1, 8),
+            block_lens: [number(&r, 11), number(&r, 12)],
+            block_seeds: [number(&r, 13), number(&r, 14)],
         }
-        run_call(out, pictures, planes, &r)?;
     }
-    Ok(())
 }
 
-// The next pictures, with their calls; false at the end of the input.
-fn next(input: &mut impl Read, out: &mut impl Write) -> io::Result<bool> {
-    let mut r = [0u8; RECORD_LEN];
-    if !evc_lists::read(input, &mut r)? {
-        return Ok(false);
+impl Record for PicturesRecord {
+    fn read<R: Read>(_alloc: Global, input: &mut R) -> io::Result<Option<PicturesRecord>> {
+        Ok(evc_lists::read_array(input)?.map(PicturesRecord::from))
     }
-    let mut planes = [0u16; PICTURES_LEN];
-    evc_lists::make_pictures(&mut planes, &r);
-    run_calls(input, out, &r, &planes)?;
-    Ok(true)
+}
+
+impl Record for Call {
+    fn read<R: Read>(_alloc: Global, input: &mut R) -> io::Result<Option<Call>> {
+        Ok(evc_lists::read_array(input)?.map(Call::from))
+    }
+}
+
+impl fmt::Display for Predicted {
+    ghost output = { λ p. Some (decimal p.code ++ 32 ∷ decimal p.moved0.x ++ 32 ∷ decimal p.moved0.y
+        ++ 32 ∷ decimal p.moved1.x ++ 32 ∷ decimal p.moved1.y) };
+
+    fn fmt<W: fmt::Write>(&self, f: &mut fmt::Formatter<W>) -> fmt::Result {
+        let EvcMoved { x: x0, y: y0 } = self.moved0;
+        let EvcMoved { x: x1, y: y1 } = self.moved1;
+        write!(f, "{} {x0} {y0} {x1} {y1}", self.code)
+    }
+}
+
+impl fmt::Display for Answer {
+    fn fmt<W: fmt::Write>(&self, f: &mut fmt::Formatter<W>) -> fmt::Result {
+        write!(f, "{} {} {}", self.predicted, self.hash0, self.hash1)
+    }
+}
+
+impl Call {
+    fn block(&self, pictures: &Pictures) -> EvcBlock {
+        EvcBlock {
+            pic_w: pictures.pic_w,
+            pic_h: pictures.pic_h,
+            x: self.x,
+            y: self.y,
+            w: self.w,
+            h: self.h,
+        }
+    }
+
+    // The blocks hold arbitrary samples first.
+    fn pred(&self, alloc: Global, k: usize) -> Result<Vec<u16>, AllocError>
+        requires { k < 2 }
+        ensures { IfOk result (λ pred. vec_len pred ≤ MAX_BLOCK_LEN) }
+    {
+        let n = evc_lists::lent(self.block_lens[k], MAX_BLOCK_LEN);
+        evc_lists::samples(alloc, n, u32::from(self.block_seeds[k]))
+    }
+
+    fn predict(
+        &self,
+        block: EvcBlock,
+        ref0: &Planes,
+        ref1: &Planes,
+        pred0: &mut [u16],
+        pred1: &mut [u16],
+    ) -> Predicted {
+        let got = evc_mc::evc_mc2(
+            block, self.list0, &ref0.y, &ref0.u, &ref0.v, self.list1, &ref1.y, &ref1.u, &ref1.v,
+            pred0, pred1,
+        );
+        Predicted {
+            code: got.code,
+            moved0: got.moved0,
+            moved1: got.moved1,
+        }
+    }
+
+    fn answer(
+        &self,
+        alloc: Global,
+        block: EvcBlock,
+        ref0: &Planes,
+        ref1: &Planes,
+    ) -> Result<Answer, AllocError> {
+        let mut pred0 = self.pred(alloc, 0)?;
+        let mut pred1 = self.pred(alloc, 1)?;
+        let predicted = self.predict(block, ref0, ref1, &mut pred0, &mut pred1);
+        Ok(Answer {
+            predicted,
+            hash0: evc_lists::hash(&pred0),
+            hash1: evc_lists::hash(&pred1),
+        })
+    }
+}
+
+impl PicturesRecord {
+    // The pictures, and the calls that follow them; at the end of the input there are no more.
+    fn run<R: Read, W: Write>(&self, alloc: Global, input: &mut R, out: &mut W) -> io::Result<()> {
+        let ref0 = self.pictures.picture(alloc, 0)?;
+        let ref1 = self.pictures.picture(alloc, 1)?;
+        evc_lists::for_each_record(alloc, input, usize::from(self.calls), |_, call: Call| {
+            let answer = call.answer(alloc, call.block(&self.pictures), &ref0, &ref1)?;
+            evc_lists::print_line(out, answer)
+        })
+    }
 }
 
 fn main(rt: HostRuntime) -> io::Result<()> {
-    let mut input = rt.reader();
+    let alloc = rt.alloc();
     let mut out = io::writer(&rt);
-    for _ in 0..MAX_RECORDS {
-        if !next(&mut input, &mut out)? {
-            break;
-        }
-    }
-    Ok(())
+    evc_lists::for_each_record(
+        alloc,
+        &mut rt.reader(),
+        MAX_RECORDS,
+        |input, record: PicturesRecord| record.run(alloc, input, &mut out),
+    )
 }

@@ -1,4 +1,5 @@
-pub mod Wrote
+pub mod Decimal
+pub mod Chunks
 pub mod Laws
 pub mod Examples
 pub mod Known

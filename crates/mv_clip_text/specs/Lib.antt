@@ -1,4 +1,3 @@
 pub mod Decimal
 pub mod Records
-pub mod Inner
 pub mod Program

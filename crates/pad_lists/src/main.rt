@@ -1,111 +1,99 @@
 //! Planes to pad: for each the number returned, and its rows afterwards, a line each: a number, or the samples, to be read. rust/README.md has the records.
 #![tactic(auto)]
 
-ghost use Rattle.std.specs.Prelude.{◌<◌};
+ghost use Rattle.std.specs.Prelude.{◌≡◌, vec_len, IfOk};
 
-use evc_lists::{MAX_PLANE_LEN, MAX_RECORDS};
+use evc_lists::{MAX_RECORDS, Record, is_one, number};
+use evc_plane::PlaneType;
+use std::alloc::{AllocError, Global};
 use std::io;
 use std::io::{Read, Write};
 
-const RECORD_LEN: usize = 22;
+// A plane to pad: its picture, how many samples it has, and how these are made.
+#[derive(Clone, Copy)]
+struct Call {
+    plane_type: PlaneType,
+    pic_w: u16,
+    pic_h: u16,
+    plane_len: u16,
+    seed: u16,
+    limit: u16,
+    // where the picture's samples begin, how far apart its rows are, and its sides
+    first: u16,
+    stride: u16,
+    width: u16,
+    height: u16,
+    is_whole: bool,
+}
 
-const IS_CHROMA: usize = 0;
-
-const PIC_W: usize = 1;
-
-const PIC_H: usize = 2;
-
-const PLANE_LEN: usize = 3;
-
-const SEED: usize = 4;
-
-const LIMIT: usize = 5;
-
-// where the picture's samples begin, how far apart its rows are, and its sides
-const FIRST: usize = 6;
-
-const STRIDE: usize = 7;
-
-const WIDTH: usize = 8;
-
-const HEIGHT: usize = 9;
-
-const IS_WHOLE: usize = 10;
-
-type Record = [u8; RECORD_LEN];
-
-// A row, if the plane has all of it.
-fn reduce_row(plane: &mut [u16], at: usize, n: usize, limit: u16)
-    requires { (at < 4294967296) × (n < 65536) × (0 < limit) }
-{
-    let end = at + n;
-    if end <= plane.len() {
-        evc_lists::reduce(&mut plane[at..end], limit);
+impl From<[u8; 22]> for Call {
+    fn from(r: [u8; 22]) -> Call {
+        Call {
+            plane_type: evc_lists::plane_type(&r, 0),
+            pic_w: number(&r, 1),
+            pic_h: number(&r, 2),
+            plane_len: number(&r, 3),
+            seed: number(&r, 4),
+            limit: number(&r, 5),
+            first: number(&r, 6),
+            stride: number(&r, 7),
+            width: number(&r, 8),
+            height: number(&r, 9),
+            is_whole: is_one(&r, 10),
+        }
     }
 }
 
-fn reduce_rows(plane: &mut [u16], first: usize, stride: usize, w: usize, h: usize, limit: u16)
-    requires { (first < 65536) × (stride < 65536) × (w < 65536) × (h < 65536) × (0 < limit) }
-{
-    let mut at = first;
-    for y in 0..h {
-        reduce_row(plane, at, w, limit);
-        at += stride;
+impl Record for Call {
+    fn read<R: Read>(_alloc: Global, input: &mut R) -> io::Result<Option<Call>> {
+        Ok(evc_lists::read_array(input)?.map(Call::from))
     }
 }
 
-// Arbitrary samples; the picture's are below the limit.
-fn fill_plane(r: &Record, plane: &mut [u16]) {
-    evc_lists::scatter(plane, evc_lists::number(r, SEED) as u32);
-    let limit = evc_lists::number(r, LIMIT);
-    let first = evc_lists::number(r, FIRST) as usize;
-    let stride = evc_lists::number(r, STRIDE) as usize;
-    let w = evc_lists::number(r, WIDTH) as usize;
-    let h = evc_lists::number(r, HEIGHT) as usize;
-    if 0 < limit {
-        reduce_rows(plane, first, stride, w, h, limit);
+impl Call {
+    // Each row of the picture, if the plane has all of it. Rows may overlap, so that they are no chunks.
+    fn reduce_picture(&self, plane: &mut [u16]) {
+        for y in 0..self.height {
+            let at = usize::from(self.first) + usize::from(y) * usize::from(self.stride);
+            if let Some(row) = plane.get_mut(at..at + usize::from(self.width)) {
+                evc_lists::reduce(row, self.limit);
+            }
+        }
     }
-}
 
-fn pad(r: &Record, plane: &mut [u16]) -> u32 {
-    evc_pad::pad(
-        evc_lists::plane_type(r, IS_CHROMA),
-        evc_lists::number(r, PIC_W) as u32,
-        evc_lists::number(r, PIC_H) as u32,
-        plane,
-    )
-}
-
-fn run_plane(out: &mut impl Write, r: &Record, plane: &mut [u16]) -> io::Result<()> {
-    fill_plane(r, plane);
-    evc_lists::print(out, pad(r, plane) as u64)?;
-    evc_lists::end_line(out)?;
-    let stride = evc_lists::number(r, STRIDE) as usize;
-    if 0 < stride {
-        evc_lists::print_rows(out, plane, stride, evc_lists::is_one(r, IS_WHOLE))?;
+    // Arbitrary samples; the picture's are below the limit.
+    fn plane(&self, alloc: Global) -> Result<Vec<u16>, AllocError>
+        ensures { IfOk result (λ plane. vec_len plane ≡ self.now.plane_len) }
+    {
+        let n = usize::from(self.plane_len);
+        let mut plane = evc_lists::samples(alloc, n, u32::from(self.seed))?;
+        self.reduce_picture(&mut plane);
+        Ok(plane)
     }
-    Ok(())
-}
 
-// The next plane; false at the end of the input.
-fn next(input: &mut impl Read, out: &mut impl Write) -> io::Result<bool> {
-    let mut r = [0u8; RECORD_LEN];
-    if !evc_lists::read(input, &mut r)? {
-        return Ok(false);
+    fn pad(&self, plane: &mut [u16]) -> u32 {
+        evc_pad::pad(
+            self.plane_type,
+            u32::from(self.pic_w),
+            u32::from(self.pic_h),
+            plane,
+        )
     }
-    let mut plane = [0u16; MAX_PLANE_LEN];
-    let n = evc_lists::lent(&r, PLANE_LEN, MAX_PLANE_LEN);
-    run_plane(out, &r, &mut plane[..n])?;
-    Ok(true)
+
+    fn run<W: Write>(&self, alloc: Global, out: &mut W) -> io::Result<()> {
+        let mut plane = self.plane(alloc)?;
+        evc_lists::print_line(out, self.pad(&mut plane))?;
+        if self.stride == 0 {
+            return Ok(());
+        }
+        evc_lists::print_rows(out, &plane, usize::from(self.stride), self.is_whole)
+    }
 }
 
 fn main(rt: HostRuntime) -> io::Result<()> {
-    let mut input = rt.reader();
+    let alloc = rt.alloc();
     let mut out = io::writer(&rt);
-    for _ in 0..MAX_RECORDS {
-        if !next(&mut input, &mut out)? {
-            break;
-        }
-    }
-    Ok(())
+    evc_lists::for_each_record(alloc, &mut rt.reader(), MAX_RECORDS, |_, call: Call| {
+        call.run(alloc, &mut out)
+    })
 }

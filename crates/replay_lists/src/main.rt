@@ -1,209 +1,199 @@
 //! Traces, each with its pictures: for each a line with the number returned, the index, the counts and a number for each plane of the target. rust/README.md has the records.
 #![tactic(auto)]
 
-ghost use Rattle.std.specs.Prelude.{◌<◌, ◌≤◌, length};
+ghost use Rattle.std.specs.Prelude.{◌≤◌, ◌∷◌, ◌++◌, Some, vec_len, IfOk, IfSome};
+ghost use Rattle.std.specs.Fmt.{decimal};
+ghost use Rattle.replay_lists.specs.declared.TheConstants.{MAX_TRACE_LEN};
 
-use evc_lists::{MAX_PLANE_LEN, MAX_RECORDS, PICTURES_LEN};
+use evc_lists::{MAX_RECORDS, Pictures, Planes, Record, is_one, number};
 use evc_replay::EvcReplay;
-use std::io;
+use std::alloc::{AllocError, Global};
 use std::io::{Read, Write};
+use std::{fmt, io};
 
 const MAX_MAP_LEN: usize = 4096;
 
 const MAX_TRACE_LEN: usize = 4096;
 
-// The bytes of the trace follow it.
-const RECORD_LEN: usize = 48;
+// The samples of a target are below this.
+const TARGET_LIMIT: u16 = 1024;
 
-type Record = [u8; RECORD_LEN];
+// The planes of the target: their seed, and their lengths.
+#[derive(Clone, Copy)]
+struct TargetRecord {
+    seed: u16,
+    y_len: u16,
+    u_len: u16,
+    v_len: u16,
+}
 
-// The numbers of a record, behind those that make the pictures.
-const TARGET_SEED: usize = 15;
+// The collocated map: arbitrary numbers of a span, around 0.
+#[derive(Clone, Copy)]
+struct MapRecord {
+    len: u16,
+    seed: u16,
+    span: u16,
+}
 
-// for Y, U and V
-const TARGET_LEN: usize = 16;
+#[derive(Drop)]
+struct Call {
+    pictures: Pictures,
+    target: TargetRecord,
+    has_col: bool,
+    map: MapRecord,
+    trace: Vec<u8>,
+}
 
-const HAS_COL: usize = 19;
+// What a call leaves of a target: a number for each plane.
+#[derive(Clone, Copy)]
+struct Hashes {
+    y: u32,
+    u: u32,
+    v: u32,
+}
 
-const MAP_LEN: usize = 20;
+#[derive(Clone, Copy)]
+struct Answer {
+    replayed: EvcReplay,
+    target: Hashes,
+}
 
-const MAP_SEED: usize = 21;
+// ---- a record
 
-const MAP_SPAN: usize = 22;
+impl TargetRecord {
+    fn planes(self, alloc: Global) -> Result<Planes, AllocError> {
+        let seed = u32::from(self.seed);
+        Ok(Planes {
+            y: evc_lists::samples_below(alloc, usize::from(self.y_len), seed, TARGET_LIMIT)?,
+            u: evc_lists::samples_below(alloc, usize::from(self.u_len), seed + 1, TARGET_LIMIT)?,
+            v: evc_lists::samples_below(alloc, usize::from(self.v_len), seed + 2, TARGET_LIMIT)?,
+        })
+    }
+}
 
-const TRACE_LEN: usize = 23;
+impl MapRecord {
+    // An arbitrary number of the span, around 0; without a span all are 0.
+    fn centred(self, arbitrary: u16) -> i16 {
+        let Some(n) = arbitrary.checked_rem(self.span) else {
+            return 0
+        };
+        n.wrapping_sub(self.span / 2).cast_signed()
+    }
+
+    fn numbers(self, alloc: Global) -> Result<Vec<i16>, AllocError> {
+        let n = evc_lists::lent(self.len, MAX_MAP_LEN);
+        evc_lists::samples(alloc, n, u32::from(self.seed))?
+            .iter()
+            .map(|arbitrary| self.centred(*arbitrary))
+            .collect(alloc)
+    }
+}
+
+fn read_trace<R: Read>(alloc: Global, input: &mut R, asked: u16) -> io::Result<Option<Vec<u8>>>
+    ensures { IfOk result (λ read. IfSome read (λ trace. vec_len trace ≤ MAX_TRACE_LEN)) }
+{
+    let n = evc_lists::lent(asked, MAX_TRACE_LEN);
+    evc_lists::read_vec(alloc, input, n)
+}
+
+impl Call {
+    fn new(r: &[u8; 48], trace: Vec<u8>) -> Call {
+        Call {
+            pictures: Pictures::new(r),
+            target: TargetRecord {
+                seed: number(r, 15),
+                y_len: number(r, 16),
+                u_len: number(r, 17),
+                v_len: number(r, 18),
+            },
+            has_col: is_one(r, 19),
+            map: MapRecord {
+                len: number(r, 20),
+                seed: number(r, 21),
+                span: number(r, 22),
+            },
+            trace,
+        }
+    }
+}
+
+// The bytes of the trace follow the numbers.
+impl Record for Call {
+    fn read<R: Read>(alloc: Global, input: &mut R) -> io::Result<Option<Call>> {
+        let Some(r) = evc_lists::read_array(input)? else {
+            return Ok(None)
+        };
+        let Some(trace) = read_trace(alloc, input, number(&r, 23))? else {
+            return Ok(None)
+        };
+        Ok(Some(Call::new(&r, trace)))
+    }
+}
 
 // ---- a call
 
-fn replay(
-    r: &Record,
-    planes: &[u16],
-    map: &[i16],
-    trace: &[u8],
-    y: &mut [u16],
-    u: &mut [u16],
-    v: &mut [u16],
-) -> EvcReplay
-    requires { 393216 ≤ length planes.now }
-{
-    let y0 = evc_lists::plane(planes, r, 0);
-    let u0 = evc_lists::plane(planes, r, 1);
-    let v0 = evc_lists::plane(planes, r, 2);
-    let y1 = evc_lists::plane(planes, r, 3);
-    let u1 = evc_lists::plane(planes, r, 4);
-    let v1 = evc_lists::plane(planes, r, 5);
-    let has_col = evc_lists::is_one(r, HAS_COL);
-    evc_replay::evc_trace_replay(trace, y0, u0, v0, y1, u1, v1, has_col, map, y, u, v)
-}
+impl Call {
+    fn replay(&self, ref0: &Planes, ref1: &Planes, map: &[i16], target: &mut Planes) -> EvcReplay {
+        evc_replay::evc_trace_replay(
+            &self.trace,
+            &ref0.y,
+            &ref0.u,
+            &ref0.v,
+            &ref1.y,
+            &ref1.u,
+            &ref1.v,
+            self.has_col,
+            map,
+            &mut target.y,
+            &mut target.u,
+            &mut target.v,
+        )
+    }
 
-fn make_target(r: &Record, y: &mut [u16], u: &mut [u16], v: &mut [u16]) {
-    let seed = evc_lists::number(r, TARGET_SEED) as u32;
-    evc_lists::fill(y, seed, 1024);
-    evc_lists::fill(u, seed + 1, 1024);
-    evc_lists::fill(v, seed + 2, 1024);
-}
+    fn answer(&self, alloc: Global) -> Result<Answer, AllocError> {
+        let ref0 = self.pictures.picture(alloc, 0)?;
+        let ref1 = self.pictures.picture(alloc, 1)?;
+        let map = self.map.numbers(alloc)?;
+        let mut target = self.target.planes(alloc)?;
+        let replayed = self.replay(&ref0, &ref1, &map, &mut target);
+        let target = Hashes {
+            y: evc_lists::hash(&target.y),
+            u: evc_lists::hash(&target.u),
+            v: evc_lists::hash(&target.v),
+        };
+        Ok(Answer { replayed, target })
+    }
 
-fn print_answer(
-    out: &mut impl Write,
-    answer: EvcReplay,
-    y: &[u16],
-    u: &[u16],
-    v: &[u16],
-) -> io::Result<()> {
-    evc_lists::print(out, answer.code as u64)?;
-    evc_lists::print_next(out, answer.index)?;
-    evc_lists::print_next(out, answer.across_low)?;
-    evc_lists::print_next(out, answer.across_high)?;
-    evc_lists::print_next(out, answer.down_low)?;
-    evc_lists::print_next(out, answer.down_high)?;
-    evc_lists::print_next(out, evc_lists::hash(y))?;
-    evc_lists::print_next(out, evc_lists::hash(u))?;
-    evc_lists::print_next(out, evc_lists::hash(v))?;
-    evc_lists::end_line(out)
-}
-
-fn run_target(
-    out: &mut impl Write,
-    r: &Record,
-    planes: &[u16],
-    map: &[i16],
-    trace: &[u8],
-    y: &mut [u16],
-    u: &mut [u16],
-    v: &mut [u16],
-) -> io::Result<()>
-    requires { 393216 ≤ length planes.now }
-{
-    make_target(r, y, u, v);
-    let answer = replay(r, planes, map, trace, y, u, v);
-    print_answer(out, answer, y, u, v)
-}
-
-// ---- what is lent
-
-fn lend_target(
-    out: &mut impl Write,
-    r: &Record,
-    planes: &[u16],
-    map: &[i16],
-    trace: &[u8],
-) -> io::Result<()>
-    requires { 393216 ≤ length planes.now }
-{
-    let mut y = [0u16; MAX_PLANE_LEN];
-    let mut u = [0u16; MAX_PLANE_LEN];
-    let mut v = [0u16; MAX_PLANE_LEN];
-    let a = evc_lists::lent(r, TARGET_LEN, MAX_PLANE_LEN);
-    let b = evc_lists::lent(r, TARGET_LEN + 1, MAX_PLANE_LEN);
-    let c = evc_lists::lent(r, TARGET_LEN + 2, MAX_PLANE_LEN);
-    run_target(
-        out,
-        r,
-        planes,
-        map,
-        trace,
-        &mut y[..a],
-        &mut u[..b],
-        &mut v[..c],
-    )
-}
-
-// An arbitrary number of this span, around 0.
-fn centred(x: u16, span: u16) -> i16
-    requires { 0 < span }
-{
-    let bits = evc_lists::wide(x % span) + 65536 - evc_lists::wide(span / 2);
-    evc_int::low16(bits as i32)
-}
-
-fn fill_map(map: &mut [i16], arbitrary: &[u16], span: u16)
-    requires { (length map.old ≤ length arbitrary.now) × (0 < span) }
-{
-    for i in 0..map.len() {
-        map[i] = centred(arbitrary[i], span);
+    fn run<W: Write>(&self, alloc: Global, out: &mut W) -> io::Result<()> {
+        evc_lists::print_line(out, self.answer(alloc)?)
     }
 }
 
-fn make_map(map: &mut [i16], r: &Record)
-    requires { length map.old ≤ 4096 }
-{
-    let mut arbitrary = [0u16; MAX_MAP_LEN];
-    evc_lists::scatter(&mut arbitrary, evc_lists::number(r, MAP_SEED) as u32);
-    let span = evc_lists::number(r, MAP_SPAN);
-    if 0 < span {
-        fill_map(map, &arbitrary, span);
+impl fmt::Display for Hashes {
+    ghost output = { λ h. Some (decimal h.y ++ 32 ∷ decimal h.u ++ 32 ∷ decimal h.v) };
+
+    fn fmt<W: fmt::Write>(&self, f: &mut fmt::Formatter<W>) -> fmt::Result {
+        write!(f, "{} {} {}", self.y, self.u, self.v)
     }
 }
 
-fn lend_map(out: &mut impl Write, r: &Record, planes: &[u16], trace: &[u8]) -> io::Result<()>
-    requires { 393216 ≤ length planes.now }
-{
-    let mut map = [0i16; MAX_MAP_LEN];
-    make_map(&mut map, r);
-    let n = evc_lists::lent(r, MAP_LEN, MAX_MAP_LEN);
-    lend_target(out, r, planes, &map[..n], trace)
-}
-
-fn lend_planes(out: &mut impl Write, r: &Record, trace: &[u8]) -> io::Result<()> {
-    let mut planes = [0u16; PICTURES_LEN];
-    evc_lists::make_pictures(&mut planes, r);
-    lend_map(out, r, &planes, trace)
-}
-
-// ---- the traces
-
-// The bytes of the trace; false where the input has no more.
-fn run_trace(
-    input: &mut impl Read,
-    out: &mut impl Write,
-    r: &Record,
-    trace: &mut [u8],
-) -> io::Result<bool> {
-    if !evc_lists::read(input, trace)? {
-        return Ok(false);
+impl fmt::Display for Answer {
+    fn fmt<W: fmt::Write>(&self, f: &mut fmt::Formatter<W>) -> fmt::Result {
+        let r = self.replayed;
+        write!(f, "{} {} ", r.code, r.index)?;
+        write!(
+            f,
+            "{} {} {} {} ",
+            r.across_low, r.across_high, r.down_low, r.down_high
+        )?;
+        write!(f, "{}", self.target)
     }
-    lend_planes(out, r, trace)?;
-    Ok(true)
-}
-
-// The next trace; false at the end of the input.
-fn next(input: &mut impl Read, out: &mut impl Write) -> io::Result<bool> {
-    let mut r = [0u8; RECORD_LEN];
-    if !evc_lists::read(input, &mut r)? {
-        return Ok(false);
-    }
-    let mut trace = [0u8; MAX_TRACE_LEN];
-    let n = evc_lists::lent(&r, TRACE_LEN, MAX_TRACE_LEN);
-    run_trace(input, out, &r, &mut trace[..n])
 }
 
 fn main(rt: HostRuntime) -> io::Result<()> {
-    let mut input = rt.reader();
+    let alloc = rt.alloc();
     let mut out = io::writer(&rt);
-    for _ in 0..MAX_RECORDS {
-        if !next(&mut input, &mut out)? {
-            break;
-        }
-    }
-    Ok(())
+    evc_lists::for_each_record(alloc, &mut rt.reader(), MAX_RECORDS, |_, call: Call| {
+        call.run(alloc, &mut out)
+    })
 }

@@ -1,86 +1,81 @@
 //! Calls for the flags in slices: for each a line with the number returned and the flags. rust/README.md has the records.
 #![tactic(auto)]
 
-ghost use Rattle.std.specs.Prelude.{◌+◌, ◌*◌, ◌<◌, ◌≤◌, length};
+ghost use Rattle.std.specs.Prelude.{◌∷◌, ◌++◌, Some};
+ghost use Rattle.std.specs.Fmt.{decimal};
 
 use evc_def::EvcBlock;
-use evc_lists::MAX_RECORDS;
-use std::io;
-use std::io::{Read, Write};
-
-const RECORD_LEN: usize = 80;
-
-type Record = [u8; RECORD_LEN];
-
-// W, H, x, y, w, h come first.
-const SLICE_NUM: usize = 6;
-
-const WORDS_LEN: usize = 7;
-
-// four bytes a word
-const FIRST_WORD: usize = 16;
+use evc_lists::{MAX_RECORDS, Record, number, number32};
+use std::alloc::{AllocError, Global};
+use std::io::Read;
+use std::{fmt, io};
 
 const MAX_WORDS: usize = 16;
 
-fn block_of(r: &Record) -> EvcBlock {
-    evc_lists::block(r, 0)
+// Where the words of a record begin, four bytes each.
+const FIRST_WORD: usize = 16;
+
+#[derive(Drop)]
+struct Call {
+    block: EvcBlock,
+    slice_num: u32,
+    words: Vec<u32>,
 }
 
-fn half(r: &[u8], k: usize) -> u32
-    requires { 2 * k + 2 ≤ length r.now }
-    ensures { result < 65536 }
-{
-    evc_lists::number(r, k) as u32
+#[derive(Clone, Copy)]
+struct Answer {
+    code: u32,
+    avail: u16,
 }
 
-fn word(r: &[u8], k: usize) -> u32
-    requires { 2 * k + 4 ≤ length r.now }
-{
-    half(r, k) + 65536 * half(r, k + 1)
+fn words_of(alloc: Global, bytes: &[u8]) -> Result<Vec<u32>, AllocError> {
+    let (words, _) = bytes.as_chunks::<4>();
+    words
+        .iter()
+        .map(|word| u32::from_le_bytes(*word))
+        .collect(alloc)
 }
 
-fn fill(words: &mut [u32], bytes: &[u8])
-    requires { 4 * length words.old ≤ length bytes.now }
-{
-    for i in 0..words.len() {
-        words[i] = word(bytes, 2 * i);
+fn call_of(alloc: Global, r: &[u8; 80]) -> Result<Call, AllocError> {
+    let n = evc_lists::lent(number(r, 7), MAX_WORDS);
+    Ok(Call {
+        block: evc_lists::block(r, 0),
+        slice_num: number32(r, 6),
+        words: words_of(alloc, &r[FIRST_WORD..FIRST_WORD + 4 * n])?,
+    })
+}
+
+impl Record for Call {
+    fn read<R: Read>(alloc: Global, input: &mut R) -> io::Result<Option<Call>> {
+        let Some(r) = evc_lists::read_array(input)? else {
+            return Ok(None)
+        };
+        Ok(Some(call_of(alloc, &r)?))
     }
 }
 
-fn fill_words(words: &mut [u32], r: &[u8])
-    requires { (length words.old ≤ 16) × (80 ≤ length r.now) }
-{
-    fill(words, &r[FIRST_WORD..]);
-}
-
-fn run_call(out: &mut impl Write, r: &Record) -> io::Result<()> {
-    let mut words = [0u32; MAX_WORDS];
-    fill_words(&mut words, r);
-    let n = evc_lists::lent(r, WORDS_LEN, MAX_WORDS);
-    let slice_num = evc_lists::number32(r, SLICE_NUM);
-    let got = evc_avail::evc_get_avail_inter_slice(block_of(r), slice_num, &words[..n]);
-    evc_lists::print(out, got.code as u64)?;
-    evc_lists::print_next(out, got.avail as u64)?;
-    evc_lists::end_line(out)
-}
-
-// The next call; false at the end of the input.
-fn next(input: &mut impl Read, out: &mut impl Write) -> io::Result<bool> {
-    let mut r = [0u8; RECORD_LEN];
-    if !evc_lists::read(input, &mut r)? {
-        return Ok(false);
+impl Call {
+    fn answer(&self) -> Answer {
+        let got = evc_avail::evc_get_avail_inter_slice(self.block, self.slice_num, &self.words);
+        Answer {
+            code: got.code,
+            avail: got.avail,
+        }
     }
-    run_call(out, &r)?;
-    Ok(true)
+}
+
+impl fmt::Display for Answer {
+    ghost output = { λ a. Some (decimal a.code ++ 32 ∷ decimal a.avail) };
+
+    fn fmt<W: fmt::Write>(&self, f: &mut fmt::Formatter<W>) -> fmt::Result {
+        write!(f, "{} {}", self.code, self.avail)
+    }
 }
 
 fn main(rt: HostRuntime) -> io::Result<()> {
-    let mut input = rt.reader();
+    let alloc = rt.alloc();
     let mut out = io::writer(&rt);
-    for _ in 0..MAX_RECORDS {
-        if !next(&mut input, &mut out)? {
-            break;
-        }
-    }
-    Ok(())
+    evc_lists::for_each_record(alloc, &mut rt.reader(), MAX_RECORDS, |_, call: Call| {
+        evc_lists::print_line(&mut out, call.answer())
+    })
 }

@@ -1,229 +1,289 @@
 //! Calls for flags, candidates and direct vectors: for each a line with the number returned and all else that the call gives. rust/README.md has the records.
 #![tactic(auto)]
 
-ghost use Rattle.std.specs.Prelude.{◌≤◌, ◌<◌, length};
+ghost use Rattle.std.specs.Prelude.{◌+◌, ◌<◌, ◌≤◌, ◌∷◌, ◌++◌, Some};
+ghost use Rattle.std.specs.Fmt.{decimal, signed_decimal};
 
 use evc_def::{EvcBlock, EvcMv};
-use evc_direct::{EvcDirect, Pocs};
-use evc_lists::MAX_RECORDS;
-use evc_motion::{EvcCandidates, Motion};
-use std::io;
+use evc_direct::Pocs;
+use evc_lists::{MAX_RECORDS, Record, is_one, number, number32};
+use evc_motion::EvcCandidates;
+use std::alloc::{AllocError, Global};
 use std::io::{Read, Write};
+use std::{fmt, io};
 
 const RECORD_LEN: usize = 32;
 
-type Record = [u8; RECORD_LEN];
+// ---- what is printed
 
-// The numbers that every record begins with: 0 flags, 1 candidates, 2 direct vectors; then W, H, x, y, w, h.
-const CALL: usize = 0;
+// A vector behind other numbers.
+#[derive(Clone, Copy)]
+struct Vector(EvcMv);
 
-const BLOCK: usize = 1;
+impl fmt::Display for Vector {
+    ghost output = { λ v. Some (32 ∷ signed_decimal v.0.x ++ 32 ∷ signed_decimal v.0.y) };
 
-fn block_of(r: &Record) -> EvcBlock {
-    evc_lists::block(r, BLOCK)
-}
-
-fn print_vector(out: &mut impl Write, mv: EvcMv) -> io::Result<()> {
-    evc_lists::print_next_signed(out, mv.x)?;
-    evc_lists::print_next_signed(out, mv.y)
+    fn fmt<W: fmt::Write>(&self, f: &mut fmt::Formatter<W>) -> fmt::Result {
+        write!(f, " {} {}", self.0.x, self.0.y)
+    }
 }
 
 // ---- flags
 
 const MAX_WORDS: usize = 16;
 
-const WORDS_LEN: usize = 7;
-
-// a byte a unit
+// Where the states of the units begin, a byte each.
 const FIRST_STATE: usize = 16;
 
-fn fill_words(words: &mut [u32], r: &[u8])
-    requires { (length words.old ≤ 16) × (32 ≤ length r.now) }
-{
-    evc_lists::fill_words(words, &r[FIRST_STATE..]);
+#[derive(Drop)]
+struct FlagsCall {
+    block: EvcBlock,
+    words: Vec<u32>,
 }
 
-fn run_flags(out: &mut impl Write, r: &Record) -> io::Result<()> {
-    let mut words = [0u32; MAX_WORDS];
-    fill_words(&mut words, r);
-    let n = evc_lists::lent(r, WORDS_LEN, MAX_WORDS);
-    let got = evc_avail::evc_get_avail_inter(block_of(r), &words[..n]);
-    evc_lists::print(out, got.code as u64)?;
-    evc_lists::print_next(out, got.avail as u64)
+#[derive(Clone, Copy)]
+struct Flags {
+    code: u32,
+    avail: u16,
 }
 
-// ---- motion
+impl FlagsCall {
+    fn new(alloc: Global, r: &[u8; RECORD_LEN]) -> Result<FlagsCall, AllocError> {
+        let n = evc_lists::lent(number(r, 7), MAX_WORDS);
+        Ok(FlagsCall {
+            block: evc_lists::block(r, 1),
+            words: evc_lists::words_of(alloc, &r[FIRST_STATE..FIRST_STATE + n])?,
+        })
+    }
 
-const MAX_MAP_LEN: usize = 64;
-
-const HAS_COL: usize = 7;
-
-const COL_LEN: usize = 8;
-
-const SEED: usize = 9;
-
-const STEP: usize = 10;
-
-fn fill_sequence(map: &mut [i16], start: u32, step: u32)
-    requires { (start < 65536) × (step < 65536) }
-{
-    let mut v = start;
-    for i in 0..map.len() {
-        map[i] = evc_int::low16(v as i32);
-        v = (v + step) % 65536;
+    fn answer(&self) -> Flags {
+        let got = evc_avail::evc_get_avail_inter(self.block, &self.words);
+        Flags {
+            code: got.code,
+            avail: got.avail,
+        }
     }
 }
 
-fn seed(r: &Record) -> u32
-    ensures { result < 65536 }
-{
-    evc_lists::number(r, SEED) as u32
+impl fmt::Display for Flags {
+    ghost output = { λ a. Some (decimal a.code ++ 32 ∷ decimal a.avail) };
+
+    fn fmt<W: fmt::Write>(&self, f: &mut fmt::Formatter<W>) -> fmt::Result {
+        write!(f, "{} {}", self.code, self.avail)
+    }
 }
 
-fn step(r: &Record) -> u32
-    ensures { result < 65536 }
-{
-    evc_lists::number(r, STEP) as u32
+// ---- made-up motion
+
+const MAX_MAP_LEN: usize = 64;
+
+// From which place of the sequence on a collocated map is, and old vectors; a motion map begins it.
+const COL_FROM: u16 = 64;
+
+const OLD_FROM: u16 = 128;
+
+// An arithmetic sequence in sixteen bits.
+#[derive(Clone, Copy)]
+struct Sequence {
+    seed: u16,
+    step: u16,
 }
 
-// Motion is made up, an arithmetic sequence in sixteen bits: from 0 on a motion map, from 64 on the collocated map, from 128 on old vectors.
-fn fill_map(map: &mut [i16], r: &Record) {
-    fill_sequence(map, seed(r), step(r));
-}
+impl Sequence {
+    fn new(r: &[u8; RECORD_LEN]) -> Sequence {
+        Sequence {
+            seed: number(r, 9),
+            step: number(r, 10),
+        }
+    }
 
-fn fill_col(col: &mut [i16], r: &Record) {
-    fill_sequence(col, (seed(r) + 64 * step(r)) % 65536, step(r));
-}
+    fn at(self, k: u16) -> i16 {
+        self.seed
+            .wrapping_add(self.step.wrapping_mul(k))
+            .cast_signed()
+    }
 
-fn fill_old(old: &mut [i16], r: &Record) {
-    fill_sequence(old, (seed(r) + 128 * step(r)) % 65536, step(r));
+    fn vector(self, k: u16) -> EvcMv
+        requires { k + 1 < 65536 }
+    {
+        EvcMv {
+            x: self.at(k),
+            y: self.at(k + 1),
+        }
+    }
+
+    fn map(self, alloc: Global, from: u16, n: usize) -> Result<Vec<i16>, AllocError> {
+        (from..u16::MAX).take(n).map(|k| self.at(k)).collect(alloc)
+    }
 }
 
 // ---- candidates
 
-const LIDX: usize = 11;
+#[derive(Drop)]
+struct CandidatesCall {
+    block: EvcBlock,
+    has_col: bool,
+    lidx: u32,
+    avail: u16,
+    map: Vec<i16>,
+    col: Vec<i16>,
+    old: EvcCandidates,
+}
 
-const AVAIL: usize = 12;
+#[derive(Clone, Copy)]
+struct Candidates {
+    code: u32,
+    candidates: EvcCandidates,
+}
 
-const MAP_LEN: usize = 13;
-
-fn old_of(r: &Record) -> EvcCandidates {
-    let mut old = [0i16; 8];
-    fill_old(&mut old, r);
+fn old_of(made: Sequence) -> EvcCandidates {
     EvcCandidates {
-        left: EvcMv {
-            x: old[0],
-            y: old[1],
-        },
-        up: EvcMv {
-            x: old[2],
-            y: old[3],
-        },
-        up_right: EvcMv {
-            x: old[4],
-            y: old[5],
-        },
-        collocated: EvcMv {
-            x: old[6],
-            y: old[7],
-        },
+        left: made.vector(OLD_FROM),
+        up: made.vector(OLD_FROM + 2),
+        up_right: made.vector(OLD_FROM + 4),
+        collocated: made.vector(OLD_FROM + 6),
         refi: [-1, 1, -128, 127],
     }
 }
 
-fn print_motion(out: &mut impl Write, got: Motion) -> io::Result<()> {
-    let cand = got.cand;
-    let refi = cand.refi;
-    evc_lists::print(out, got.code as u64)?;
-    print_vector(out, cand.left)?;
-    print_vector(out, cand.up)?;
-    print_vector(out, cand.up_right)?;
-    print_vector(out, cand.collocated)?;
-    evc_lists::print_next_signed(out, refi[0] as i16)?;
-    evc_lists::print_next_signed(out, refi[1] as i16)?;
-    evc_lists::print_next_signed(out, refi[2] as i16)?;
-    evc_lists::print_next_signed(out, refi[3] as i16)
+impl CandidatesCall {
+    fn new(alloc: Global, r: &[u8; RECORD_LEN]) -> Result<CandidatesCall, AllocError> {
+        let made = Sequence::new(r);
+        Ok(CandidatesCall {
+            block: evc_lists::block(r, 1),
+            has_col: is_one(r, 7),
+            lidx: number32(r, 11),
+            avail: number(r, 12),
+            map: made.map(alloc, 0, evc_lists::lent(number(r, 13), MAX_MAP_LEN))?,
+            col: made.map(alloc, COL_FROM, evc_lists::lent(number(r, 8), MAX_MAP_LEN))?,
+            old: old_of(made),
+        })
+    }
+
+    fn answer(&self) -> Candidates {
+        let got = evc_motion::get_motion(
+            self.block,
+            self.lidx,
+            self.avail,
+            &self.map,
+            self.has_col,
+            &self.col,
+            self.old,
+        );
+        Candidates {
+            code: got.code,
+            candidates: got.cand,
+        }
+    }
 }
 
-fn get_motion(r: &Record, map: &[i16], col: &[i16]) -> Motion {
-    let lidx = evc_lists::number32(r, LIDX);
-    let avail = evc_lists::number(r, AVAIL);
-    let has_col = evc_lists::is_one(r, HAS_COL);
-    evc_motion::get_motion(block_of(r), lidx, avail, map, has_col, col, old_of(r))
-}
-
-fn run_candidates(out: &mut impl Write, r: &Record) -> io::Result<()> {
-    let mut map = [0i16; MAX_MAP_LEN];
-    let mut col = [0i16; MAX_MAP_LEN];
-    fill_map(&mut map, r);
-    fill_col(&mut col, r);
-    let n = evc_lists::lent(r, MAP_LEN, MAX_MAP_LEN);
-    let m = evc_lists::lent(r, COL_LEN, MAX_MAP_LEN);
-    print_motion(out, get_motion(r, &map[..n], &col[..m]))
+impl fmt::Display for Candidates {
+    fn fmt<W: fmt::Write>(&self, f: &mut fmt::Formatter<W>) -> fmt::Result {
+        let c = self.candidates;
+        write!(f, "{}", self.code)?;
+        write!(f, "{}{}", Vector(c.left), Vector(c.up))?;
+        write!(f, "{}{}", Vector(c.up_right), Vector(c.collocated))?;
+        for refi in c.refi {
+            write!(f, " {refi}")?;
+        }
+        Ok(())
+    }
 }
 
 // ---- direct vectors
 
-const FIRST_POC: usize = 11;
+#[derive(Drop)]
+struct DirectCall {
+    block: EvcBlock,
+    pocs: Pocs,
+    has_col: bool,
+    col: Vec<i16>,
+}
 
-fn pocs_of(r: &Record) -> Pocs {
+#[derive(Clone, Copy)]
+struct Direct {
+    code: u32,
+    mv0: EvcMv,
+    mv1: EvcMv,
+}
+
+fn pocs_of(r: &[u8; RECORD_LEN]) -> Pocs {
     Pocs {
-        poc: evc_lists::number32(r, FIRST_POC),
-        poc0: evc_lists::number32(r, FIRST_POC + 1),
-        poc1: evc_lists::number32(r, FIRST_POC + 2),
-        list_poc0: evc_lists::number32(r, FIRST_POC + 3),
+        poc: number32(r, 11),
+        poc0: number32(r, 12),
+        poc1: number32(r, 13),
+        list_poc0: number32(r, 14),
     }
 }
 
-fn print_direct(out: &mut impl Write, got: EvcDirect) -> io::Result<()> {
-    evc_lists::print(out, got.code as u64)?;
-    print_vector(out, got.mv0)?;
-    print_vector(out, got.mv1)
+impl DirectCall {
+    fn new(alloc: Global, r: &[u8; RECORD_LEN]) -> Result<DirectCall, AllocError> {
+        let n = evc_lists::lent(number(r, 8), MAX_MAP_LEN);
+        Ok(DirectCall {
+            block: evc_lists::block(r, 1),
+            pocs: pocs_of(r),
+            has_col: is_one(r, 7),
+            col: Sequence::new(r).map(alloc, COL_FROM, n)?,
+        })
+    }
+
+    fn answer(&self) -> Direct {
+        let got = evc_direct::evc_get_mv_dir(self.block, self.pocs, self.has_col, &self.col);
+        Direct {
+            code: got.code,
+            mv0: got.mv0,
+            mv1: got.mv1,
+        }
+    }
 }
 
-fn get_direct(r: &Record, col: &[i16]) -> EvcDirect {
-    let has_col = evc_lists::is_one(r, HAS_COL);
-    evc_direct::evc_get_mv_dir(block_of(r), pocs_of(r), has_col, col)
-}
-
-fn run_direct(out: &mut impl Write, r: &Record) -> io::Result<()> {
-    let mut col = [0i16; MAX_MAP_LEN];
-    fill_col(&mut col, r);
-    let n = evc_lists::lent(r, COL_LEN, MAX_MAP_LEN);
-    print_direct(out, get_direct(r, &col[..n]))
+impl fmt::Display for Direct {
+    fn fmt<W: fmt::Write>(&self, f: &mut fmt::Formatter<W>) -> fmt::Result {
+        write!(f, "{}{}{}", self.code, Vector(self.mv0), Vector(self.mv1))
+    }
 }
 
 // ---- the list
 
-fn run_call(out: &mut impl Write, r: &Record) -> io::Result<()> {
-    let call = evc_lists::number(r, CALL);
-    if call == 0 {
-        run_flags(out, r)
-    } else if call == 1 {
-        run_candidates(out, r)
-    } else {
-        run_direct(out, r)
+#[derive(Drop)]
+enum Call {
+    Flags(FlagsCall),
+    Candidates(CandidatesCall),
+    Direct(DirectCall),
+}
+
+impl Call {
+    // Number 0 tells which.
+    fn new(alloc: Global, r: &[u8; RECORD_LEN]) -> Result<Call, AllocError> {
+        Ok(match number(r, 0) {
+            0 => Call::Flags(FlagsCall::new(alloc, r)?),
+            1 => Call::Candidates(CandidatesCall::new(alloc, r)?),
+            _ => Call::Direct(DirectCall::new(alloc, r)?),
+        })
+    }
+
+    fn run<W: Write>(&self, out: &mut W) -> io::Result<()> {
+        match self {
+            Call::Flags(call) => evc_lists::print_line(out, call.answer()),
+            Call::Candidates(call) => evc_lists::print_line(out, call.answer()),
+            Call::Direct(call) => evc_lists::print_line(out, call.answer()),
+        }
     }
 }
 
-// The next call; false at the end of the input.
-fn next(input: &mut impl Read, out: &mut impl Write) -> io::Result<bool> {
-    let mut r = [0u8; RECORD_LEN];
-    if !evc_lists::read(input, &mut r)? {
-        return Ok(false);
+impl Record for Call {
+    fn read<R: Read>(alloc: Global, input: &mut R) -> io::Result<Option<Call>> {
+        let Some(r) = evc_lists::read_array(input)? else {
+            return Ok(None)
+        };
+        Ok(Some(Call::new(alloc, &r)?))
     }
-    run_call(out, &r)?;
-    evc_lists::end_line(out)?;
-    Ok(true)
 }
 
 fn main(rt: HostRuntime) -> io::Result<()> {
-    let mut input = rt.reader();
+    let alloc = rt.alloc();
     let mut out = io::writer(&rt);
-    for _ in 0..MAX_RECORDS {
-        if !next(&mut input, &mut out)? {
-            break;
-        }
-    }
-    Ok(())
+    evc_lists::for_each_record(alloc, &mut rt.reader(), MAX_RECORDS, |_, call: Call| {
+        call.run(&mut out)
+    })
 }

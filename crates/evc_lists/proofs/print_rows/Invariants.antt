@@ -1,9 +1,11 @@
--- Each row ends behind where it begins, and within the samples.
-use Rattle.std.proofs.Common.{◌-◌, ◌≤◌, length}
+-- What is still to be written completes the text of all rows.
+use Rattle.std.proofs.Common.{◌≡◌, Option, List, ℕ}
+use Rattle.std.specs.Io.KnownBytes.{Appends}
+use Rattle.evc_lists.specs.Printed.{rows_text}
 use Rattle.evc_lists.proofs.print_rows.Given as goal
 
-abbrev pub invariant-loop-at : goal.invariant-loop-at
-invariant-loop-at g l = l.at ≤ length l.samples
-
-abbrev pub decreases-loop-at : goal.decreases-loop-at
-decreases-loop-at g l = length l.samples - l.at
+abbrev pub invariant-loop-row : goal.invariant-loop-row
+invariant-loop-row g l =
+    (l.row-iterator.size ≡ l.stride)
+    × ((last : Option (List ℕ)) → Appends (g.W.Write.contents l.out) last (rows_text l.stride l.whole l.row-iterator.rest.now)
+    → Appends (g.W.Write.contents l.fn.out) last (rows_text l.stride l.whole l.samples))
