@@ -1,3 +1,4 @@
 pub mod Counts
 pub mod Records
 pub mod Header
+pub mod Absent
