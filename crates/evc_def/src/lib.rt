@@ -13,7 +13,7 @@ pub mod accepted;
 pub mod refusal;
 
 pub use accepted::{Block, Picture, Span};
-pub use refusal::Refusal;
+pub use refusal::{Refusal, code};
 
 // ---- def.rs: numbers
 

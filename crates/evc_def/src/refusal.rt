@@ -1,7 +1,7 @@
 //! Why a call is refused.
 
 ghost use Rattle.std.specs.Prelude.{◌≡◌};
-ghost use Rattle.evc_def.specs.Refusals.{number_of};
+ghost use Rattle.evc_def.specs.Refusals.{number_of, code_of};
 
 use std::error::Error;
 use std::fmt;
@@ -27,6 +27,16 @@ impl Refusal {
         ensures { result ≡ number_of self }
     {
         self as u32
+    }
+}
+
+// What a call returns for its number: 0 where it is done.
+pub fn code(done: Result<(), Refusal>) -> u32
+    ensures { result ≡ code_of done }
+{
+    match done {
+        Ok(()) => 0,
+        Err(refusal) => refusal.number(),
     }
 }
 

@@ -1,7 +1,8 @@
 //! The calls of include/evc_inter.h, each over the function that does its work.
 #![tactic(auto)]
 
-ghost use Rattle.std.specs.Prelude.{◌≡◌};
+ghost use Rattle.std.specs.Prelude.{◌≡◌, cond, []};
+ghost use Rattle.evc_map.specs.Maps.{is_present, numbers_of};
 ghost use Rattle.evc_def.specs.Places.{given_place};
 ghost use Rattle.evc_clip.specs.Clip.{mv_clip};
 ghost use Rattle.evc_avail.specs.Flags.{get_avail_inter};
@@ -12,7 +13,6 @@ ghost use Rattle.evc_motion.specs.Candidates.{get_motion};
 ghost use Rattle.evc_pad.specs.Padding.{pad_code, pad_after};
 ghost use Rattle.evc_interp.specs.Prediction.{mc_plane_code, mc_plane_after};
 ghost use Rattle.evc_mc.specs.Block.{ref_pic_list, mc2_answer, mc2_first, mc2_second};
-ghost use Rattle.evc_inter.specs.Inner.{zero_candidates};
 ghost use Rattle.evc_inter.specs.Kinds.{plane_type};
 ghost use Rattle.evc_camera.specs.Camera.{camera_motion};
 ghost use Rattle.evc_trace.specs.declared.TraceHeader.{TraceHeader};
@@ -27,7 +27,7 @@ use evc_clip::EvcClipped;
 use evc_def::{EvcBlock, EvcMv};
 use evc_direct::{EvcDirect, Pocs};
 use evc_mc::{EvcList, EvcPredicted};
-use evc_motion::{EvcCandidates, Motion};
+use evc_motion::EvcCandidates;
 use evc_plane::PlaneType;
 use evc_replay::EvcReplay;
 use evc_trace::EvcTraceRecord;
@@ -38,13 +38,20 @@ fn plane_type(chroma: bool) -> PlaneType
     if chroma { PlaneType::UV } else { PlaneType::Y }
 }
 
+// The collocated map, where there is one.
+fn collocated(has_col: bool, col_mv: &[i16]) -> Option<&[i16]>
+    ensures { (is_present result ≡ has_col) × (numbers_of result ≡ cond has_col col_mv.now []) }
+{
+    has_col.then_some(col_mv)
+}
+
 // The border of one plane, in place.
 #[unsafe(no_mangle)]
 pub extern "C" fn evc_pad(chroma: bool, pic_w: u32, pic_h: u32, plane: &mut [u16]) -> u32
     ensures value { result ≡ pad_code (plane_type chroma) pic_w pic_h plane.old }
     ensures plane_after { plane.new ≡ pad_after (plane_type chroma) pic_w pic_h plane.old }
 {
-    evc_pad::pad(plane_type(chroma), pic_w, pic_h, plane)
+    evc_def::code(evc_pad::pad(plane_type(chroma), pic_w, pic_h, plane))
 }
 
 // Neighbour flags.
@@ -52,7 +59,7 @@ pub extern "C" fn evc_pad(chroma: bool, pic_w: u32, pic_h: u32, plane: &mut [u16
 pub extern "C" fn evc_get_avail_inter(block: EvcBlock, map_scu: &[u32]) -> EvcAvail
     ensures { result ≡ get_avail_inter block map_scu.now }
 {
-    evc_avail::evc_get_avail_inter(block, map_scu)
+    EvcAvail::from(evc_avail::get_avail_inter(block, map_scu))
 }
 
 // Neighbour flags of a block of one slice.
@@ -64,7 +71,7 @@ pub extern "C" fn evc_get_avail_inter_slice(
 ) -> EvcAvail
     ensures { result ≡ get_avail_inter_slice block slice_num map_scu.now }
 {
-    evc_avail::evc_get_avail_inter_slice(block, slice_num, map_scu)
+    EvcAvail::from(evc_avail::get_avail_inter_slice(block, slice_num, map_scu))
 }
 
 // Direct vectors.
@@ -88,7 +95,8 @@ pub extern "C" fn evc_get_mv_dir(
         poc1,
         list_poc0,
     };
-    evc_direct::evc_get_mv_dir(block, pocs, has_col, col_mv)
+    let col_mv = collocated(has_col, col_mv);
+    EvcDirect::from(evc_direct::get_mv_dir(block, pocs, col_mv))
 }
 
 // Clipping of one vector.
@@ -96,29 +104,7 @@ pub extern "C" fn evc_get_mv_dir(
 pub extern "C" fn evc_mv_clip(block: EvcBlock, mv: EvcMv) -> EvcClipped
     ensures { result ≡ mv_clip block mv }
 {
-    evc_clip::mv_clip(block, mv)
-}
-
-// The candidates over a record of zeros: what the lent one is set to.
-fn found_motion(
-    block: EvcBlock,
-    lidx: u32,
-    avail: u16,
-    map_mv: &[i16],
-    has_col: bool,
-    col_mv: &[i16],
-) -> Motion
-    ensures { result ≡ get_motion block lidx avail map_mv.now has_col col_mv.now zero_candidates }
-{
-    let mv = EvcMv { x: 0, y: 0 };
-    let zeros = EvcCandidates {
-        left: mv,
-        up: mv,
-        up_right: mv,
-        collocated: mv,
-        refi: [0; 4],
-    };
-    evc_motion::get_motion(block, lidx, avail, map_mv, has_col, col_mv, zeros)
+    EvcClipped::from(evc_clip::mv_clip(block, mv))
 }
 
 // The four candidates of a list, into the record lent. After a refusal nothing is stored.
@@ -135,18 +121,14 @@ pub extern "C" fn evc_get_motion(
     ensures code { result ≡ (get_motion block lidx avail map_mv.now has_col col_mv.now cand.old).code }
     ensures record_after { cand.new ≡ (get_motion block lidx avail map_mv.now has_col col_mv.now cand.old).cand }
 {
-    let found = found_motion(block, lidx, avail, map_mv, has_col, col_mv);
-    if found.code != 0 {
-        return found.code;
+    let col_mv = collocated(has_col, col_mv);
+    match evc_motion::get_motion(block, lidx, avail, map_mv, col_mv, *cand) {
+        Ok(found) => {
+            *cand = found;
+            0
+        }
+        Err(refusal) => refusal.number(),
     }
-    cand.left = found.cand.left;
-    cand.up = found.cand.up;
-    cand.up_right = found.cand.up_right;
-    cand.refi = [0; 4];
-    if has_col {
-        cand.collocated = found.cand.collocated;
-    }
-    0
 }
 
 // The prediction of a block of one plane.
@@ -167,17 +149,8 @@ pub extern "C" fn evc_mc_plane(
     ensures pred_after { let t = plane_type chroma in
         pred.new ≡ mc_plane_after t pic_w pic_h ori_mv (given_place gmv) w h plane.now pred.old }
 {
-    evc_interp::evc_mc_plane(
-        plane_type(chroma),
-        pic_w,
-        pic_h,
-        ori_mv,
-        gmv,
-        w,
-        h,
-        plane,
-        pred,
-    )
+    let t = plane_type(chroma);
+    evc_def::code(evc_interp::evc_mc_plane(t, pic_w, pic_h, ori_mv, gmv, w, h, plane, pred))
 }
 
 // The prediction of a block from one or two lists.
@@ -205,7 +178,7 @@ pub extern "C" fn evc_mc2(
         let l1 = ref_pic_list list1 y1.now u1.now v1.now in
         pred1.new ≡ mc2_second block l0 l1 pred0.old pred1.old }
 {
-    evc_mc::evc_mc2(block, list0, y0, u0, v0, list1, y1, u1, v1, pred0, pred1)
+    EvcPredicted::from(evc_mc::evc_mc2(block, list0, y0, u0, v0, list1, y1, u1, v1, pred0, pred1))
 }
 
 // The header of a trace.
@@ -222,7 +195,7 @@ pub extern "C" fn evc_trace_write_header(
         let header : TraceHeader = record { pic_w = pic_w; pic_h = pic_h; poc = poc; list_poc0 = list_poc0 } in
         out.new ≡ write_header_after header out.old) }
 {
-    evc_trace::evc_trace_write_header(pic_w, pic_h, poc, list_poc0, out)
+    evc_def::code(evc_trace::write_header(pic_w, pic_h, poc, list_poc0, out))
 }
 
 // A record of a trace.
@@ -236,7 +209,7 @@ pub extern "C" fn evc_trace_write_record(
     ensures value { result ≡ write_record_code pic_w pic_h trace_record out.old }
     ensures out_after { out.new ≡ write_record_after pic_w pic_h trace_record out.old }
 {
-    evc_trace::evc_trace_write_record(pic_w, pic_h, trace_record, out)
+    evc_def::code(evc_trace::write_record(pic_w, pic_h, trace_record, out))
 }
 
 // A trace's records, replayed into the target.
@@ -265,7 +238,8 @@ pub extern "C" fn evc_trace_replay(
         let target = planes y.old u.old v.old in
         counts_in result ≡ replayed_counts trace.now ref0 ref1 has_col col_mv.now target }
 {
-    evc_replay::evc_trace_replay(trace, y0, u0, v0, y1, u1, v1, has_col, col_mv, y, u, v)
+    let col_mv = collocated(has_col, col_mv);
+    evc_replay::evc_trace_replay(trace, y0, u0, v0, y1, u1, v1, col_mv, y, u, v)
 }
 
 // The movement of a picture's camera, by its motion map and unit words.
@@ -278,5 +252,5 @@ pub extern "C" fn evc_camera_motion(
 ) -> EvcCamera
     ensures { result ≡ camera_motion pic_w pic_h map_mv.now map_scu.now }
 {
-    evc_camera::evc_camera_motion(pic_w, pic_h, map_mv, map_scu)
+    EvcCamera::from(evc_camera::camera_motion(pic_w, pic_h, map_mv, map_scu))
 }

@@ -28,12 +28,8 @@ pub struct EvcReplay {
 fn answer(ended: Result<(), Refusal>, index: u64, c: MovedCounts) -> EvcReplay
     ensures { (answer_in result ≡ record { code = code_of ended; index = index }) × (counts_in result ≡ c) }
 {
-    let code = match ended {
-        Ok(()) => 0,
-        Err(refusal) => refusal.number(),
-    };
     EvcReplay {
-        code,
+        code: evc_def::code(ended),
         index,
         across_low: c.across_low,
         across_high: c.across_high,
