@@ -7,4 +7,4 @@ use Rattle.evc_inter.proofs.evc_pad.Goals as goal
 pub returns : goal.returns
 returns c =
     let a = c.args in
-    let e = c.plane_type.ensures in record { value = c.pad.ensures.value ∙ ap (λ (k : PlaneType). pad_code k a.pic_w a.pic_h a.plane.now) e; plane_after = c.pad.ensures.plane_after ∙ ap (λ (k : PlaneType). pad_after k a.pic_w a.pic_h a.plane.now) e }
+    let e = c.plane_type.ensures in record { value = c.code.ensures ∙ c.pad.ensures.value ∙ ap (λ (k : PlaneType). pad_code k a.pic_w a.pic_h a.plane.now) e; plane_after = c.pad.ensures.plane_after ∙ ap (λ (k : PlaneType). pad_after k a.pic_w a.pic_h a.plane.now) e }
