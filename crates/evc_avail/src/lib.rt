@@ -178,18 +178,16 @@ impl<'a, R: Region> Neighbours<'a, R> {
         Some(Scu(unit.0 - 1))
     }
 
-    // The unit right of the block, in the row of its last one.
+    // The unit right of the block, in the row of one in its last column.
     fn right_of_last(&self, last: Scu) -> Option<Scu>
         requires { in_last_column self.now.block.given last }
         ensures { let b = self.now.block.given in
             (row : ℕ) → unit_of b (last_column b) row ≡ Some last → result ≡ unit_of b (right_of b) row }
     {
-        self.block
-            .across()
-            .goes_on()
-            .then_some(Scu(last.0 + 1))
+        self.block.across().goes_on().then_some(Scu(last.0 + 1))
     }
 
+    // The same, of one in its first column.
     #[tactic(auto, using(crate::proofs::Around::last_unit))]
     fn right_of(&self, unit: Scu) -> Option<Scu>
         requires { in_first_column self.now.block.given unit }
