@@ -4,7 +4,7 @@ use Rattle.std.specs.Bool.{then_some}
 use Rattle.evc_def.specs.Tables.{is_coded, is_intra, slice_num}
 use Rattle.evc_def.specs.declared.EvcBlock.{EvcBlock}
 use Rattle.evc_def.specs.declared.Scu.{Scu}
-use Rattle.evc_avail.specs.Around.{first_column, has_unit, index_of}
+use Rattle.evc_avail.specs.Around.{first_column, last_column, has_unit, index_of}
 
 -- a word whose slice number is 0 if the unit counts, and which then has the other bits of the unit's word
 pub record Seen (counts : ℕ → Bool) (word seen : ℕ) : Type 0 where
@@ -16,6 +16,9 @@ pub record Seen (counts : ℕ → Bool) (word seen : ℕ) : Type 0 where
 abbrev pub unit_of : EvcBlock → ℕ → ℕ → Option Scu
 unit_of b column row = then_some (has_unit b column row) (record { 0 = index_of b column row })
 
--- a unit in the block's first column
+-- a unit in the block's first column, and in its last
 abbrev pub in_first_column : EvcBlock → Scu → Type 0
 in_first_column b unit = (row : ℕ) × (unit_of b (first_column b) row ≡ Some unit)
+
+abbrev pub in_last_column : EvcBlock → Scu → Type 0
+in_last_column b unit = (row : ℕ) × (unit_of b (last_column b) row ≡ Some unit)

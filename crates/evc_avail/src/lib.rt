@@ -5,10 +5,10 @@ ghost use Rattle.evc_def.specs.Codes.{◌when◌, first_of};
 ghost use Rattle.evc_def.specs.Refusals.{code_of};
 ghost use Rattle.evc_def.specs.Tables.{is_coded, is_intra};
 ghost use Rattle.evc_map.specs.Maps.{units_of, scup, scuh, w_scu};
-ghost use Rattle.evc_avail.specs.Around.{left_of, first_column, right_of, above, first_row, below};
+ghost use Rattle.evc_avail.specs.Around.{left_of, first_column, last_column, right_of, above, first_row, below};
 ghost use Rattle.evc_avail.specs.Flags.{is_inter_in, is_not_intra_in, avail_left_in, avail_right_in, avail_up_in, avail_of, of_picture, avail_checks, get_avail_inter, answer_of};
 ghost use Rattle.evc_avail.specs.Slices.{of_slice, max_slice_num, get_avail_inter_slice};
-ghost use Rattle.evc_avail.specs.Inner.{Seen, unit_of, in_first_column};
+ghost use Rattle.evc_avail.specs.Inner.{Seen, unit_of, in_first_column, in_last_column};
 
 use evc_def::{
     AVAIL_LE, AVAIL_LO_LE, AVAIL_LO_RI, AVAIL_RI, AVAIL_RI_UP, AVAIL_UP, AVAIL_UP_LE, AVAIL_UP_RI,
@@ -178,15 +178,23 @@ impl<'a, R: Region> Neighbours<'a, R> {
         Some(Scu(unit.0 - 1))
     }
 
+    // The unit right of the block, in the row of one in its last column.
+    fn right_of_last(&self, last: Scu) -> Option<Scu>
+        requires { in_last_column self.now.block.given last }
+        ensures { let b = self.now.block.given in
+            (row : ℕ) → unit_of b (last_column b) row ≡ Some last → result ≡ unit_of b (right_of b) row }
+    {
+        self.block.across().goes_on().then_some(Scu(last.0 + 1))
+    }
+
+    // The same, of one in its first column.
+    #[tactic(auto, using(crate::proofs::Around::last_unit))]
     fn right_of(&self, unit: Scu) -> Option<Scu>
         requires { in_first_column self.now.block.given unit }
         ensures { let b = self.now.block.given in
             (row : ℕ) → unit_of b (first_column b) row ≡ Some unit → result ≡ unit_of b (right_of b) row }
     {
-        self.block
-            .across()
-            .goes_on()
-            .then_some(Scu(unit.0 + evc_map::scu(self.block.given.w).0))
+        self.right_of_last(Scu(unit.0 + evc_map::scu(self.block.given.w).0 - 1))
     }
 
     #[tactic(auto, using(crate::proofs::Around::first_unit))]
@@ -274,10 +282,11 @@ impl<'a, R: Region> Neighbours<'a, R> {
             return 0;
         };
         let scuw = evc_map::scu(self.block.given.w);
+        let last = Scu(above.0 + scuw.0 - 1);
         let up = self.is_not_intra(above);
-        let ri_up = self.is_not_intra(Scu(above.0 + scuw.0 - 1));
+        let ri_up = self.is_not_intra(last);
         let up_le = self.is_inter(self.left_of(above));
-        let up_ri = self.is_inter(self.right_of(above));
+        let up_ri = self.is_inter(self.right_of_last(last));
         flag(up, AVAIL_UP)
             + flag(ri_up, AVAIL_RI_UP)
             + flag(up_le, AVAIL_UP_LE)
