@@ -8,7 +8,7 @@ pub loop-row-preserved : goal.loop-row-preserved
 loop-row-preserved g c =
     let s = c.in-Some.ensures.steps in
     let e : c.loop-row.row-iterator.size ≡ c.args.stride = c.loop-row.invariant.0 in
-    let rows = next_row c.args.stride c.args.whole c.requires _ _ _ s.1.0
+    let rows = next_row c.args.stride c.args.whole c.requires c.loop-row.row-iterator.rest.now c.in-Some.row.now c.next.new.self.rest.now s.1.0
     (s.1.1 ∙ ap (λ (n : ℕ). min n (length c.loop-row.row-iterator.rest.now)) e) s.1.2 in (
       s.0 ∙ e,
       λ last q.
