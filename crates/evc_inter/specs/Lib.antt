@@ -1,2 +1,1 @@
-pub mod Inner
 pub mod Kinds

@@ -95,8 +95,7 @@ pub extern "C" fn evc_get_mv_dir(
         poc1,
         list_poc0,
     };
-    let col_mv = collocated(has_col, col_mv);
-    EvcDirect::from(evc_direct::get_mv_dir(block, pocs, col_mv))
+    EvcDirect::from(evc_direct::get_mv_dir(block, pocs, collocated(has_col, col_mv)))
 }
 
 // Clipping of one vector.
@@ -121,8 +120,8 @@ pub extern "C" fn evc_get_motion(
     ensures code { result ≡ (get_motion block lidx avail map_mv.now has_col col_mv.now cand.old).code }
     ensures record_after { cand.new ≡ (get_motion block lidx avail map_mv.now has_col col_mv.now cand.old).cand }
 {
-    let col_mv = collocated(has_col, col_mv);
-    match evc_motion::get_motion(block, lidx, avail, map_mv, col_mv, *cand) {
+    let map_col = collocated(has_col, col_mv);
+    match evc_motion::get_motion(block, lidx, avail, map_mv, map_col, *cand) {
         Ok(found) => {
             *cand = found;
             0

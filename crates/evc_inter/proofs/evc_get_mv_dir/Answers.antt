@@ -12,5 +12,5 @@ pub returns : goal.returns
 returns c =
     let a = c.args in
     let p : Pocs = record { poc = a.poc; poc0 = a.poc0; poc1 = a.poc1; list_poc0 = a.list_poc0 } in
-    let m = c.collocated-col_mv.ensures in
+    let m = c.collocated.ensures in
     c.from.ensures ∙ c.get_mv_dir.ensures ∙ ap₂ (λ (has : Bool) (col : List ℤ). get_mv_dir a.block p has col) m.0 m.1 ∙ absent a.block p a.has_col a.col_mv.now
