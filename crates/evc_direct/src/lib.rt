@@ -103,6 +103,8 @@ fn direct_vectors(p: Pocs, mv: EvcMv) -> DirectVectors
     }
 }
 
+// Built into the exported call and into replay's: with two callers it would be a call of its own, and its Result go through memory.
+#[inline(always)]
 pub fn get_mv_dir(
     block: EvcBlock,
     pocs: Pocs,
