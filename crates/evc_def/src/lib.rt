@@ -6,7 +6,6 @@ ghost use Rattle.std.specs.Int.{w16, w32};
 ghost use Rattle.std.proofs.Common.{SFits};
 ghost use Rattle.evc_int.specs.Whole.{◌modulo◌, clip3};
 ghost use Rattle.evc_def.specs.Blocks.{is_picture_side, is_block_side, bad_picture, bad_block};
-ghost use Rattle.evc_def.specs.Codes.{first_of, block_checks};
 ghost use Rattle.evc_def.specs.Tables.{tbl_cu_dim_offset, is_bit, is_coded, is_intra, slice_num};
 
 pub mod accepted;
@@ -301,26 +300,13 @@ fn is_inside(size: u32, place: u32, side: u32) -> bool
     place as u64 + side as u64 <= size as u64
 }
 
-// Whether the picture goes on beside and below the block. The sums are those of the check, so that they are formed once.
-pub fn has_right(b: EvcBlock) -> bool
-    ensures { result ≡ not (eqb (b.x + b.w) b.pic_w) }
-{
-    b.x as u64 + b.w as u64 != b.pic_w as u64
-}
-
-pub fn has_below(b: EvcBlock) -> bool
-    ensures { result ≡ not (eqb (b.y + b.h) b.pic_h) }
-{
-    b.y as u64 + b.h as u64 != b.pic_h as u64
-}
-
-pub fn bad_picture(pic_w: u32, pic_h: u32) -> bool
+fn bad_picture(pic_w: u32, pic_h: u32) -> bool
     ensures { result ≡ bad_picture pic_w pic_h }
 {
     !(is_picture_side(pic_w) & is_picture_side(pic_h))
 }
 
-pub fn bad_block(b: EvcBlock) -> bool
+fn bad_block(b: EvcBlock) -> bool
     ensures { result ≡ bad_block b }
 {
     // The places stand together, so that the optimizer makes one test of the two.
@@ -339,17 +325,4 @@ fn is_accepted(b: EvcBlock) -> bool
         & (b.pic_w <= MAX_PIC_SIZE)
         & (b.pic_h <= MAX_PIC_SIZE)
         & ((b.pic_w % 4 == 0) & (b.pic_h % 4 == 0))
-}
-
-// The checks that every call on a block begins with, in rising number.
-pub fn block_code(b: EvcBlock) -> u32
-    ensures { result ≡ first_of (block_checks b) }
-{
-    if is_accepted(b) {
-        return 0;
-    }
-    if bad_picture(b.pic_w, b.pic_h) {
-        return 1;
-    }
-    2
 }

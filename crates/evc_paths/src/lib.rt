@@ -10,7 +10,7 @@ ghost use Rattle.evc_paths.specs.Inner.{Within};
 
 use evc_blocks::Layout;
 use evc_filter::{First, Second, Single};
-use evc_plane::PlaneType;
+use evc_plane::{PlaneSlice, PlaneType};
 
 // Through an array: by `copy_from_slice` whole samples take up to 1.4 times as long (luma 32 by 32: 232 against 165 ns).
 fn copy<const N: usize>(s: &[u16], at: usize, d: &mut [u16], to: usize)
@@ -46,8 +46,13 @@ pub fn evc_mc_00(s: &[u16], at: usize, stride: usize, w: usize, h: usize, pred: 
     requires { (at + h * stride + w ≤ length s.now + stride) × (h * w ≤ length pred.old) × (is_row_width w ≡ true) }
     ensures { pred.new ≡ with_block pred.old 0 w w h (λ (y x : ℕ). get_or s.now (at + y * stride + x) 0) }
 {
+    let window = PlaneSlice {
+        plane: s,
+        stride,
+        at,
+    };
     for y in 0..h {
-        copy_row(evc_plane::row_of(s, stride, at, y), w, pred, y * w);
+        copy_row(window.row(y), w, pred, y * w);
     }
 }
 

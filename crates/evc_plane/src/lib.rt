@@ -117,32 +117,13 @@ pub struct PlaneSlice<'a> {
     pub at: usize,
 }
 
-pub fn over<'a>(plane: &'a [u16], stride: usize, at: usize) -> PlaneSlice<'a>
-    ensures { (result.plane ≡ plane.entry) × ((result.stride ≡ stride) × (result.at ≡ at)) }
-{
-    PlaneSlice { plane, stride, at }
-}
-
-// What lies in the plane from a row of the window on.
-fn row_at(s: &[u16], stride: usize, at: usize, row: usize) -> &[u16]
-    requires { at + row * stride ≤ length s.now }
-    ensures { result.now ≡ drop (at + row * stride) s.now }
-{
-    let i = at + row * stride;
-    &s[i..]
-}
-
-pub fn row<'a>(w: PlaneSlice<'a>, row: usize) -> &'a [u16]
-    requires { w.at + row * w.stride ≤ length w.plane.now }
-    ensures { result.now ≡ drop (w.entry.at + row * w.entry.stride) w.entry.plane.now }
-{
-    row_at(w.plane, w.stride, w.at, row)
-}
-
-// With plain parameters: whoever calls this one needs no walk by hand.
-pub fn row_of(plane: &[u16], stride: usize, at: usize, y: usize) -> &[u16]
-    requires { at + y * stride ≤ length plane.now }
-    ensures { result.now ≡ drop (at + y * stride) plane.now }
-{
-    row(over(plane, stride, at), y)
+impl<'a> PlaneSlice<'a> {
+    // What lies in the plane from a row of the window on.
+    pub fn row(self, y: usize) -> &'a [u16]
+        requires { self.at + y * self.stride ≤ length self.plane.now }
+        ensures { result.now ≡ drop (self.entry.at + y * self.entry.stride) self.entry.plane.now }
+    {
+        let i = self.at + y * self.stride;
+        &self.plane[i..]
+    }
 }

@@ -16,7 +16,7 @@ ghost use Rattle.evc_record.specs.Inner.{after_record};
 use evc_def::{Block, EvcBlock, Refusal};
 use evc_direct::{DirectVectors, Pocs};
 use evc_mc::{EvcList, ListsMoved};
-use evc_plane::PlaneType;
+use evc_plane::{PlaneSlice, PlaneType};
 use evc_trace::{EvcTraceRecord, RECORD_LEN, TraceHeader};
 
 // ---- a block's samples into the target
@@ -26,8 +26,13 @@ fn copy_block(s: &[u16], at: usize, w: usize, h: usize, d: &mut [u16], to: usize
     requires { (at + h * w ≤ length s.now) × (to + h * stride + w ≤ length d.old + stride) × (is_row_width w ≡ true) }
     ensures { d.new ≡ with_block d.old to stride w h (λ (y x : ℕ). get_or s.now (at + y * w + x) 0) }
 {
+    let samples = PlaneSlice {
+        plane: s,
+        stride: w,
+        at,
+    };
     for y in 0..h {
-        evc_paths::copy_row(evc_plane::row_of(s, w, at, y), w, d, to + y * stride);
+        evc_paths::copy_row(samples.row(y), w, d, to + y * stride);
     }
 }
 

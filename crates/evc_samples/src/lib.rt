@@ -5,6 +5,7 @@ ghost use Rattle.std.specs.List.{list_any};
 ghost use Rattle.evc_samples.specs.Samples.{too_large, row_exceeds, exceeds};
 
 use evc_def::MAX_SAMPLE_VAL;
+use evc_plane::PlaneSlice;
 use std::simd::prelude::*;
 
 // The test at a sample. Samples are gathered by an OR: it is above 1023 exactly if one of them is, by its bits from 10 up.
@@ -60,9 +61,14 @@ fn or_rows(s: &[u16], at: usize, stride: usize, n: usize, h: usize) -> u16
     requires { at + h * stride + n ≤ length s.now + stride }
     ensures { too_large result ≡ exceeds s.now at stride n h }
 {
+    let window = PlaneSlice {
+        plane: s,
+        stride,
+        at,
+    };
     let mut o = 0;
     for y in 0..h {
-        let row = evc_plane::row_of(s, stride, at, y);
+        let row = window.row(y);
         o |= or_row(&row[..n]);
     }
     o

@@ -15,5 +15,5 @@ loop-y-preserved c =
     let l = c.loop-y in (
       (let t = c.loop-y-test.true in omega arith),
       c.copy_row.auto.d ∙ l.invariant.1,
-      block_step _ _ _ _ _ _ _ _ l.invariant.2 (row_copied _ _ _ _ _ _ _ _ c.row_of.ensures c.copy_row.ensures),
+      block_step _ _ _ _ _ _ _ _ l.invariant.2 (row_copied _ _ _ _ _ _ _ _ c.row.ensures c.copy_row.ensures),
     )

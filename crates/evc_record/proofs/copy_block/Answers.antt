@@ -17,5 +17,5 @@ loop-y-preserved c =
     let a = c.args in (
       (let t = c.loop-y-test.true in omega arith),
       c.copy_row.auto.d ∙ l.invariant.1,
-      block_step _ _ _ _ _ _ _ _ l.invariant.2 (row_copied a.s.now _ l.d _ (a.at + l.y * a.w) a.w (a.to + l.y * a.stride) c.row_of.ensures c.copy_row.ensures),
+      block_step _ _ _ _ _ _ _ _ l.invariant.2 (row_copied a.s.now _ l.d _ (a.at + l.y * a.w) a.w (a.to + l.y * a.stride) c.row.ensures c.copy_row.ensures),
     )
