@@ -1,10 +1,10 @@
 -- The records of a chunk, one behind the other, and what is written of them. Assumes nothing.
-use Rattle.std.proofs.Common.{List, [], ◌∷◌, ◌++◌, append-nil, append_assoc, ◌≡◌, refl, sym, ap, ◌∙◌, subst, eq-eqb, ne_eqb, add-one, arith, lit<, ℕ, zero, suc, ◌+◌, ◌*◌, ◌/◌, ◌%◌, ◌<◌, ◌≤◌, Option, Some, None, length, take, drop, get_or}
+use Rattle.std.proofs.Common.{List, [], append-nil, ◌≡◌, refl, sym, ap, ◌∙◌, subst, eq-eqb, ne_eqb, add-one, arith, ℕ, zero, suc, ◌+◌, ◌*◌, ◌/◌, ◌%◌, ◌<◌, Option, Some, None, length, take, drop, get_or}
 use Rattle.std.proofs.lemmas.List.{get_or-take, get_or-drop, drop-drop}
 use Rattle.std.specs.Io.KnownBytes.{Appends}
 use Rattle.std.specs.Simd.{first_chunks}
 use Rattle.evc_clip.specs.declared.EvcClipped.{EvcClipped}
-use Rattle.mv_clip_text.specs.Records.{field, answer_at, line, lines, incomplete, text}
+use Rattle.mv_clip_text.specs.Records.{answer_at, line, lines, incomplete, text}
 use Rattle.mv_clip_text.proofs.Laws.{answer_same}
 use Rattle.mv_clip_text.proofs.Known.{appends_both}
 
@@ -43,6 +43,6 @@ module _ (a b : Option (List ℕ)) (s : List ℕ) (i : ℕ) (p : Appends a b (li
   unfolding text
   whole e z = rw (eq-eqb (length s % 16) 0 z, append-nil, ← e) p
 
-  pub with_last : (c : Option (List ℕ)) → i ≡ length s / 16 → (length s % 16 ≡ 0 → ⊥) → Appends b c (line incomplete) → Appends a c (text s)
+  pub with_last : (c : Option (List ℕ)) (r : EvcClipped) → r ≡ incomplete → i ≡ length s / 16 → (length s % 16 ≡ 0 → ⊥) → Appends b c (line r) → Appends a c (text s)
   unfolding text
-  with_last c e n q = rw (ne_eqb (length s % 16) 0 n, ← e) (appends_both a b c (lines s i) (line incomplete) p q)
+  with_last c r is e n q = rw (ne_eqb (length s % 16) 0 n, ← e, ← is) (appends_both a b c (lines s i) (line r) p q)

@@ -1,6 +1,5 @@
 -- `mv_clip_text::print_line`: what the library prints of three numbers is the line.
-use Rattle.std.proofs.Common.{rules, ◌≡◌, subst, w16, SFits}
-use Rattle.mv_clip_text.specs.Records.{line}
+use Rattle.std.proofs.Common.{rules, w16, SFits}
 use Rattle.mv_clip_text.proofs.Laws.{line_printed, line_short}
 use Rattle.mv_clip_text.proofs.print_line.Goals as goal
 
