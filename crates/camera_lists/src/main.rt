@@ -73,7 +73,7 @@ impl Record for Call {
 
 impl Call {
     fn answer(&self) -> Answer {
-        Answer(evc_camera::evc_camera_motion(self.pic_w, self.pic_h, &self.map, &self.words))
+        Answer(evc_camera::camera_motion(self.pic_w, self.pic_h, &self.map, &self.words).into())
     }
 }
 

@@ -2,10 +2,7 @@
 //! on a line is not concerned.
 #![tactic(auto)]
 
-ghost use Rattle.std.specs.Prelude.{◌≡◌, false};
-ghost use Rattle.evc_def.specs.Blocks.{bad_picture};
-
-use evc_def::{EvcBlock, EvcMv};
+use evc_def::{EvcBlock, EvcMv, Picture, Refusal};
 use evc_direct::Pocs;
 use evc_mc::{EvcList, PRED_LEN};
 use evc_motion::EvcCandidates;
@@ -22,24 +19,26 @@ const UNITS: usize = 2032;
 
 const MOTION_LEN: usize = 8128;
 
-const NO_MOTION: EvcMv = EvcMv { x: 0, y: 0 };
-
 // ---- the number that each call returns
 
+fn number<T: Drop>(answer: Result<T, Refusal>) -> u32 {
+    evc_def::code(answer.map(|_| ()))
+}
+
 fn flags(b: EvcBlock) -> u32 {
-    evc_avail::evc_get_avail_inter(b, &[0; UNITS]).code
+    number(evc_avail::get_avail_inter(b, &[0; UNITS]))
 }
 
 fn candidates(b: EvcBlock) -> u32 {
     let map = [0; MOTION_LEN];
     let old = EvcCandidates {
-        left: NO_MOTION,
-        up: NO_MOTION,
-        up_right: NO_MOTION,
-        collocated: NO_MOTION,
+        left: EvcMv::default(),
+        up: EvcMv::default(),
+        up_right: EvcMv::default(),
+        collocated: EvcMv::default(),
         refi: [0; 4],
     };
-    evc_motion::get_motion(b, 0, 0, &map, true, &map, old).code
+    number(evc_motion::get_motion(b, 0, 0, &map, Some(&map), old))
 }
 
 fn direct(b: EvcBlock, poc: u32) -> u32 {
@@ -49,28 +48,27 @@ fn direct(b: EvcBlock, poc: u32) -> u32 {
         poc1: 2,
         list_poc0: 1,
     };
-    evc_direct::evc_get_mv_dir(b, pocs, true, &[0; MOTION_LEN]).code
+    number(evc_direct::get_mv_dir(b, pocs, Some(&[0; MOTION_LEN])))
 }
 
 fn clipping(b: EvcBlock) -> u32 {
-    evc_clip::mv_clip(b, NO_MOTION).code
+    number(evc_clip::mv_clip(b, EvcMv::default()))
 }
 
 fn padding(t: PlaneType, b: EvcBlock, plane: &mut [u16]) -> u32 {
-    evc_pad::pad(t, b.pic_w, b.pic_h, plane)
+    number(evc_pad::pad(t, b.pic_w, b.pic_h, plane))
 }
 
 fn one_plane(t: PlaneType, b: EvcBlock, w: u32, h: u32, plane: &[u16]) -> u32 {
     let mut pred = [0; PRED_LEN];
-    evc_interp::evc_mc_plane(
-        t, b.pic_w, b.pic_h, NO_MOTION, NO_MOTION, w, h, plane, &mut pred,
-    )
+    let mv = EvcMv::default();
+    number(evc_interp::evc_mc_plane(t, b.pic_w, b.pic_h, mv, mv, w, h, plane, &mut pred))
 }
 
 fn list_of(poc: u32) -> EvcList {
     EvcList {
         used: true,
-        mv: NO_MOTION,
+        mv: EvcMv::default(),
         poc,
     }
 }
@@ -81,10 +79,9 @@ fn block(b: EvcBlock, poc: u32, luma: &[u16], chroma: &[u16]) -> u32 {
     let mut pred1 = [0; PRED_LEN];
     let list0 = list_of(0);
     let list1 = list_of(poc);
-    let got = evc_mc::evc_mc2(
+    number(evc_mc::evc_mc2(
         b, list0, luma, chroma, chroma, list1, luma, chroma, chroma, &mut pred0, &mut pred1,
-    );
-    got.code
+    ))
 }
 
 // ---- what is printed
@@ -141,17 +138,15 @@ fn square(pic_w: u32, pic_h: u32, side: u32) -> EvcBlock {
     }
 }
 
-fn print_stride(rt: &impl Print, name: &str, t: PlaneType, pic_w: u32) -> io::Result<()>
-    requires { bad_picture pic_w 4 ≡ false }
-{
-    let c = evc_plane::plane_config(t, pic_w, 4);
+fn print_stride(rt: &impl Print, name: &str, t: PlaneType, pic: Picture) -> io::Result<()> {
+    let c = evc_plane::plane_config(t, pic);
     println!(rt; "{name} width {}: stride {}", c.width, c.stride)
 }
 
 #[tactic(auto, unfolding(evc_def::specs::Blocks::bad_picture))]
 fn print_strides(rt: &impl Print, name: &str, t: PlaneType) -> io::Result<()> {
-    print_stride(rt, name, t, 4)?;
-    print_stride(rt, name, t, 8128)
+    print_stride(rt, name, t, Picture { w: 4, h: 4 })?;
+    print_stride(rt, name, t, Picture { w: 8128, h: 4 })
 }
 
 impl Planes {

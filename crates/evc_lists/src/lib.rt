@@ -260,7 +260,7 @@ impl Pictures {
     // A plane that is too short to be padded stays.
     fn pad(&self, t: PlaneType, plane: &mut [u16]) {
         if self.is_padded {
-            evc_pad::pad(t, self.pic_w, self.pic_h, plane);
+            let _ = evc_pad::pad(t, self.pic_w, self.pic_h, plane);
         }
     }
 

@@ -4,7 +4,7 @@
 //! vector needs no clipping, and of the plane at the exact place; then the reports of clipping the block's vector, across and down (document 02, W2).
 #![tactic(auto)]
 
-use evc_clip::EvcMoved;
+use evc_clip::{EvcClipped, EvcMoved};
 use evc_def::{EvcBlock, EvcMv};
 use evc_mc::{EvcList, PRED_LEN};
 use evc_plane::PlaneType;
@@ -41,7 +41,7 @@ fn block(b: EvcBlock, mv: EvcMv, at: usize, luma: &[u16], chroma: &[u16]) -> u16
     let mut pred1 = [OLD; PRED_LEN];
     let list0 = list_of(true, mv);
     let list1 = list_of(false, mv);
-    evc_mc::evc_mc2(
+    let _ = evc_mc::evc_mc2(
         b, list0, luma, chroma, chroma, list1, luma, chroma, chroma, &mut pred0, &mut pred1,
     );
     get(&pred0, at)
@@ -50,7 +50,7 @@ fn block(b: EvcBlock, mv: EvcMv, at: usize, luma: &[u16], chroma: &[u16]) -> u16
 // The block lies at (0, 0), so the exact place is the vector itself.
 fn plane(b: EvcBlock, mv: EvcMv, at: usize, luma: &[u16]) -> u16 {
     let mut pred = [OLD; PRED_LEN];
-    evc_interp::evc_mc_plane(
+    let _ = evc_interp::evc_mc_plane(
         PlaneType::Y,
         b.pic_w,
         b.pic_h,
@@ -65,7 +65,7 @@ fn plane(b: EvcBlock, mv: EvcMv, at: usize, luma: &[u16]) -> u16 {
 }
 
 fn moved(b: EvcBlock, mv: EvcMv) -> EvcMoved {
-    evc_clip::mv_clip(b, mv).moved
+    EvcClipped::from(evc_clip::mv_clip(b, mv)).moved
 }
 
 // ---- the four sides
@@ -198,7 +198,7 @@ impl Side {
     fn luma(self, alloc: Global) -> Result<Vec<u16>, AllocError> {
         let b = self.parts().whole;
         let mut luma: Vec<u16> = (0..LUMA_LEN).map(|i| self.sample(i)).collect(alloc)?;
-        evc_pad::pad(PlaneType::Y, b.pic_w, b.pic_h, &mut luma);
+        let _ = evc_pad::pad(PlaneType::Y, b.pic_w, b.pic_h, &mut luma);
         Ok(luma)
     }
 

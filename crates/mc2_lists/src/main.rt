@@ -8,7 +8,7 @@ ghost use Rattle.mc2_lists.specs.declared.TheConstants.{MAX_BLOCK_LEN};
 use evc_clip::EvcMoved;
 use evc_def::EvcBlock;
 use evc_lists::{MAX_RECORDS, Pictures, Planes, Record, number, number32};
-use evc_mc::EvcList;
+use evc_mc::{EvcList, EvcPredicted};
 use std::alloc::{AllocError, Global};
 use std::io::{Read, Write};
 use std::{fmt, io};
@@ -35,11 +35,7 @@ struct Call {
 }
 
 #[derive(Clone, Copy)]
-struct Predicted {
-    code: u32,
-    moved0: EvcMoved,
-    moved1: EvcMoved,
-}
+struct Predicted(EvcPredicted);
 
 // What a call gives: a line has a number for each block.
 #[derive(Clone, Copy)]
@@ -98,13 +94,13 @@ impl Record for Call {
 }
 
 impl fmt::Display for Predicted {
-    ghost output = { λ p. Some (decimal p.code ++ 32 ∷ decimal p.moved0.x ++ 32 ∷ decimal p.moved0.y
-        ++ 32 ∷ decimal p.moved1.x ++ 32 ∷ decimal p.moved1.y) };
+    ghost output = { λ p. Some (decimal p.0.code ++ 32 ∷ decimal p.0.moved0.x ++ 32 ∷ decimal p.0.moved0.y
+        ++ 32 ∷ decimal p.0.moved1.x ++ 32 ∷ decimal p.0.moved1.y) };
 
     fn fmt<W: fmt::Write>(&self, f: &mut fmt::Formatter<W>) -> fmt::Result {
-        let EvcMoved { x: x0, y: y0 } = self.moved0;
-        let EvcMoved { x: x1, y: y1 } = self.moved1;
-        write!(f, "{} {x0} {y0} {x1} {y1}", self.code)
+        let EvcMoved { x: x0, y: y0 } = self.0.moved0;
+        let EvcMoved { x: x1, y: y1 } = self.0.moved1;
+        write!(f, "{} {x0} {y0} {x1} {y1}", self.0.code)
     }
 }
 
@@ -147,11 +143,7 @@ impl Call {
             block, self.list0, &ref0.y, &ref0.u, &ref0.v, self.list1, &ref1.y, &ref1.u, &ref1.v,
             pred0, pred1,
         );
-        Predicted {
-            code: got.code,
-            moved0: got.moved0,
-            moved1: got.moved1,
-        }
+        Predicted(got.into())
     }
 
     fn answer(

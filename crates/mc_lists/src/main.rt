@@ -108,7 +108,7 @@ impl PlaneRecord {
     // A plane that is too short to be padded stays.
     fn pad(&self, plane: &mut [u16]) {
         if self.is_padded {
-            evc_pad::pad(
+            let _ = evc_pad::pad(
                 self.plane_type,
                 u32::from(self.pic_w),
                 u32::from(self.pic_h),
@@ -118,7 +118,7 @@ impl PlaneRecord {
     }
 
     fn predict(&self, plane: &[u16], call: &Call, pred: &mut [u16]) -> u32 {
-        evc_interp::evc_mc_plane(
+        evc_def::code(evc_interp::evc_mc_plane(
             self.plane_type,
             u32::from(self.pic_w),
             u32::from(self.pic_h),
@@ -128,7 +128,7 @@ impl PlaneRecord {
             u32::from(call.h),
             plane,
             pred,
-        )
+        ))
     }
 
     fn run_call<W: Write>(

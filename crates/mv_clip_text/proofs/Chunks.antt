@@ -43,6 +43,6 @@ module _ (a b : Option (List ℕ)) (s : List ℕ) (i : ℕ) (p : Appends a b (li
   unfolding text
   whole e z = rw (eq-eqb (length s % 16) 0 z, append-nil, ← e) p
 
-  pub with_last : (c : Option (List ℕ)) → i ≡ length s / 16 → (length s % 16 ≡ 0 → ⊥) → Appends b c (line incomplete) → Appends a c (text s)
+  pub with_last : (c : Option (List ℕ)) (r : EvcClipped) → r ≡ incomplete → i ≡ length s / 16 → (length s % 16 ≡ 0 → ⊥) → Appends b c (line r) → Appends a c (text s)
   unfolding text
-  with_last c e n q = rw (ne_eqb (length s % 16) 0 n, ← e) (appends_both a b c (lines s i) (line incomplete) p q)
+  with_last c r is e n q = rw (ne_eqb (length s % 16) 0 n, ← e, ← is) (appends_both a b c (lines s i) (line r) p q)

@@ -6,8 +6,8 @@ ghost use Rattle.evc_int.specs.LowBits.{signed16};
 ghost use Rattle.mv_clip_text.specs.Records.{field, answer_at, line, text};
 ghost use Rattle.mv_clip_text.specs.Program.{refused_picture, header, ChunkAnswered};
 
-use evc_clip::{EvcClipped, EvcMoved, NOT_MOVED};
-use evc_def::{EvcBlock, EvcMv};
+use evc_clip::EvcClipped;
+use evc_def::{EvcBlock, EvcMv, Refusal};
 use std::io;
 use std::io::{Read, Write};
 
@@ -51,7 +51,7 @@ fn answer(record: &[u8; RECORD_LEN]) -> EvcClipped
         x: component(record, 6),
         y: component(record, 7),
     };
-    evc_clip::mv_clip(block, mv)
+    evc_clip::mv_clip(block, mv).into()
 }
 
 // ---- the text of a chunk of records
@@ -76,15 +76,8 @@ fn print_text<W: Write>(out: &mut W, records: &[u8]) -> io::Result<()>
     if rest.is_empty() {
         return Ok(());
     }
-    let incomplete = EvcClipped {
-        code: 4,
-        mv: EvcMv { x: 0, y: 0 },
-        moved: EvcMoved {
-            x: NOT_MOVED,
-            y: NOT_MOVED,
-        },
-    };
-    print_line(out, incomplete)
+    // An incomplete last record is a buffer too short.
+    print_line(out, EvcClipped::from(Err(Refusal::Buffer)))
 }
 
 // ---- the program

@@ -72,12 +72,12 @@ impl Call {
     }
 
     fn pad(&self, plane: &mut [u16]) -> u32 {
-        evc_pad::pad(
+        evc_def::code(evc_pad::pad(
             self.plane_type,
             u32::from(self.pic_w),
             u32::from(self.pic_h),
             plane,
-        )
+        ))
     }
 
     fn run<W: Write>(&self, alloc: Global, out: &mut W) -> io::Result<()> {

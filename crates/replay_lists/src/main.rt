@@ -39,8 +39,7 @@ struct MapRecord {
 struct Call {
     pictures: Pictures,
     target: TargetRecord,
-    has_col: bool,
-    map: MapRecord,
+    map: Option<MapRecord>,
     trace: Vec<u8>,
 }
 
@@ -106,12 +105,11 @@ impl Call {
                 u_len: number(r, 17),
                 v_len: number(r, 18),
             },
-            has_col: is_one(r, 19),
-            map: MapRecord {
+            map: is_one(r, 19).then_some(MapRecord {
                 len: number(r, 20),
                 seed: number(r, 21),
                 span: number(r, 22),
-            },
+            }),
             trace,
         }
     }
@@ -133,7 +131,17 @@ impl Record for Call {
 // ---- a call
 
 impl Call {
-    fn replay(&self, ref0: &Planes, ref1: &Planes, map: &[i16], target: &mut Planes) -> EvcReplay {
+    fn map(&self, alloc: Global) -> Result<Option<Vec<i16>>, AllocError> {
+        self.map.map(|map| map.numbers(alloc)).transpose()
+    }
+
+    fn replay(
+        &self,
+        ref0: &Planes,
+        ref1: &Planes,
+        map: Option<&[i16]>,
+        target: &mut Planes,
+    ) -> EvcReplay {
         evc_replay::evc_trace_replay(
             &self.trace,
             &ref0.y,
@@ -142,7 +150,6 @@ impl Call {
             &ref1.y,
             &ref1.u,
             &ref1.v,
-            self.has_col,
             map,
             &mut target.y,
             &mut target.u,
@@ -153,9 +160,9 @@ impl Call {
     fn answer(&self, alloc: Global) -> Result<Answer, AllocError> {
         let ref0 = self.pictures.picture(alloc, 0)?;
         let ref1 = self.pictures.picture(alloc, 1)?;
-        let map = self.map.numbers(alloc)?;
+        let map = self.map(alloc)?;
         let mut target = self.target.planes(alloc)?;
-        let replayed = self.replay(&ref0, &ref1, &map, &mut target);
+        let replayed = self.replay(&ref0, &ref1, map.as_deref(), &mut target);
         let target = Hashes {
             y: evc_lists::hash(&target.y),
             u: evc_lists::hash(&target.u),

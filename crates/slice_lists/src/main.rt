@@ -4,6 +4,7 @@
 ghost use Rattle.std.specs.Prelude.{◌∷◌, ◌++◌, Some};
 ghost use Rattle.std.specs.Fmt.{decimal};
 
+use evc_avail::EvcAvail;
 use evc_def::EvcBlock;
 use evc_lists::{MAX_RECORDS, Record, number, number32};
 use std::alloc::{AllocError, Global};
@@ -23,10 +24,7 @@ struct Call {
 }
 
 #[derive(Clone, Copy)]
-struct Answer {
-    code: u32,
-    avail: u16,
-}
+struct Answer(EvcAvail);
 
 fn words_of(alloc: Global, bytes: &[u8]) -> Result<Vec<u32>, AllocError> {
     let (words, _) = bytes.as_chunks::<4>();
@@ -56,19 +54,16 @@ impl Record for Call {
 
 impl Call {
     fn answer(&self) -> Answer {
-        let got = evc_avail::evc_get_avail_inter_slice(self.block, self.slice_num, &self.words);
-        Answer {
-            code: got.code,
-            avail: got.avail,
-        }
+        let got = evc_avail::get_avail_inter_slice(self.block, self.slice_num, &self.words);
+        Answer(got.into())
     }
 }
 
 impl fmt::Display for Answer {
-    ghost output = { λ a. Some (decimal a.code ++ 32 ∷ decimal a.avail) };
+    ghost output = { λ a. Some (decimal a.0.code ++ 32 ∷ decimal a.0.avail) };
 
     fn fmt<W: fmt::Write>(&self, f: &mut fmt::Formatter<W>) -> fmt::Result {
-        write!(f, "{} {}", self.code, self.avail)
+        write!(f, "{} {}", self.0.code, self.0.avail)
     }
 }
 

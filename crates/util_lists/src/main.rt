@@ -4,8 +4,9 @@
 ghost use Rattle.std.specs.Prelude.{◌+◌, ◌<◌, ◌≤◌, ◌∷◌, ◌++◌, Some};
 ghost use Rattle.std.specs.Fmt.{decimal, signed_decimal};
 
+use evc_avail::EvcAvail;
 use evc_def::{EvcBlock, EvcMv};
-use evc_direct::Pocs;
+use evc_direct::{EvcDirect, Pocs};
 use evc_lists::{MAX_RECORDS, Record, is_one, number, number32};
 use evc_motion::EvcCandidates;
 use std::alloc::{AllocError, Global};
@@ -42,10 +43,7 @@ struct FlagsCall {
 }
 
 #[derive(Clone, Copy)]
-struct Flags {
-    code: u32,
-    avail: u16,
-}
+struct Flags(EvcAvail);
 
 impl FlagsCall {
     fn new(alloc: Global, r: &[u8; RECORD_LEN]) -> Result<FlagsCall, AllocError> {
@@ -57,19 +55,15 @@ impl FlagsCall {
     }
 
     fn answer(&self) -> Flags {
-        let got = evc_avail::evc_get_avail_inter(self.block, &self.words);
-        Flags {
-            code: got.code,
-            avail: got.avail,
-        }
+        Flags(evc_avail::get_avail_inter(self.block, &self.words).into())
     }
 }
 
 impl fmt::Display for Flags {
-    ghost output = { λ a. Some (decimal a.code ++ 32 ∷ decimal a.avail) };
+    ghost output = { λ a. Some (decimal a.0.code ++ 32 ∷ decimal a.0.avail) };
 
     fn fmt<W: fmt::Write>(&self, f: &mut fmt::Formatter<W>) -> fmt::Result {
-        write!(f, "{} {}", self.code, self.avail)
+        write!(f, "{} {}", self.0.code, self.0.avail)
     }
 }
 
@@ -117,16 +111,24 @@ impl Sequence {
     }
 }
 
+// The collocated map, if the record has one.
+fn col_of(alloc: Global, r: &[u8; RECORD_LEN]) -> Result<Option<Vec<i16>>, AllocError> {
+    if !is_one(r, 7) {
+        return Ok(None);
+    }
+    let n = evc_lists::lent(number(r, 8), MAX_MAP_LEN);
+    Ok(Some(Sequence::new(r).map(alloc, COL_FROM, n)?))
+}
+
 // ---- candidates
 
 #[derive(Drop)]
 struct CandidatesCall {
     block: EvcBlock,
-    has_col: bool,
     lidx: u32,
     avail: u16,
     map: Vec<i16>,
-    col: Vec<i16>,
+    col: Option<Vec<i16>>,
     old: EvcCandidates,
 }
 
@@ -151,11 +153,10 @@ impl CandidatesCall {
         let made = Sequence::new(r);
         Ok(CandidatesCall {
             block: evc_lists::block(r, 1),
-            has_col: is_one(r, 7),
             lidx: number32(r, 11),
             avail: number(r, 12),
             map: made.map(alloc, 0, evc_lists::lent(number(r, 13), MAX_MAP_LEN))?,
-            col: made.map(alloc, COL_FROM, evc_lists::lent(number(r, 8), MAX_MAP_LEN))?,
+            col: col_of(alloc, r)?,
             old: old_of(made),
         })
     }
@@ -166,13 +167,12 @@ impl CandidatesCall {
             self.lidx,
             self.avail,
             &self.map,
-            self.has_col,
-            &self.col,
+            self.col.as_deref(),
             self.old,
         );
         Candidates {
-            code: got.code,
-            candidates: got.cand,
+            code: evc_def::code(got.map(|_| ())),
+            candidates: got.unwrap_or(self.old),
         }
     }
 }
@@ -196,16 +196,11 @@ impl fmt::Display for Candidates {
 struct DirectCall {
     block: EvcBlock,
     pocs: Pocs,
-    has_col: bool,
-    col: Vec<i16>,
+    col: Option<Vec<i16>>,
 }
 
 #[derive(Clone, Copy)]
-struct Direct {
-    code: u32,
-    mv0: EvcMv,
-    mv1: EvcMv,
-}
+struct Direct(EvcDirect);
 
 fn pocs_of(r: &[u8; RECORD_LEN]) -> Pocs {
     Pocs {
@@ -218,28 +213,22 @@ fn pocs_of(r: &[u8; RECORD_LEN]) -> Pocs {
 
 impl DirectCall {
     fn new(alloc: Global, r: &[u8; RECORD_LEN]) -> Result<DirectCall, AllocError> {
-        let n = evc_lists::lent(number(r, 8), MAX_MAP_LEN);
         Ok(DirectCall {
             block: evc_lists::block(r, 1),
             pocs: pocs_of(r),
-            has_col: is_one(r, 7),
-            col: Sequence::new(r).map(alloc, COL_FROM, n)?,
+            col: col_of(alloc, r)?,
         })
     }
 
     fn answer(&self) -> Direct {
-        let got = evc_direct::evc_get_mv_dir(self.block, self.pocs, self.has_col, &self.col);
-        Direct {
-            code: got.code,
-            mv0: got.mv0,
-            mv1: got.mv1,
-        }
+        Direct(evc_direct::get_mv_dir(self.block, self.pocs, self.col.as_deref()).into())
     }
 }
 
 impl fmt::Display for Direct {
     fn fmt<W: fmt::Write>(&self, f: &mut fmt::Formatter<W>) -> fmt::Result {
-        write!(f, "{}{}{}", self.code, Vector(self.mv0), Vector(self.mv1))
+        let d = self.0;
+        write!(f, "{}{}{}", d.code, Vector(d.mv0), Vector(d.mv1))
     }
 }
 

@@ -17,11 +17,11 @@ pub returns : goal.returns
 returns c =
     let u : SFits w16 c.component.result = search rules in
     let v : SFits w16 c.component-2.result = search rules in
-    let e : c.mv_clip.result ≡ answer_at c.args.record.now 0 =
+    let e : c.into.result ≡ answer_at c.args.record.now 0 =
     answered c.args.record.now _ _ _ _ _ _ _ _ _
     c.field.ensures c.field-2.ensures c.field-3.ensures c.field-4.ensures c.field-5.ensures c.field-6.ensures
     (to_z-of_z u ∙ c.component.ensures) (to_z-of_z v ∙ c.component-2.ensures)
-    c.mv_clip.ensures in
+    (c.into.ensures ∙ c.mv_clip.ensures) in
     record {
       value = e;
       negative_picture = λ h. e ∙ negative_picture _ _ h;

@@ -24,5 +24,5 @@ pub returns : goal.returns
 returns g c =
     let some : length c.as_chunks.result.1.now ≡ 0 → ⊥ = search rules in
     on_ok_weaker _
-    (with_last _ _ _ _ c.loop-record.invariant _ (omega (arith, c.as_chunks.ensures.front_len)) (λ z. some (omega (arith, z, c.as_chunks.ensures.back_len))))
+    (with_last _ _ _ _ c.loop-record.invariant _ _ c.from.ensures (omega (arith, c.as_chunks.ensures.front_len)) (λ z. some (omega (arith, z, c.as_chunks.ensures.back_len))))
     c.print_line-2.ensures.wrote
