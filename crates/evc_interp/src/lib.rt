@@ -59,12 +59,7 @@ fn start(t: PlaneType, filtered: bool, z: Qpel) -> Pel
 fn window(t: PlaneType, pic: Picture, across: bool, down: bool, gmv: QpelPlace) -> usize
     ensures { result ≡ window_of t pic.w pic.h across down gmv }
 {
-    evc_plane::window_start(
-        t,
-        pic,
-        start(t, across, gmv.x),
-        start(t, down, gmv.y),
-    )
+    evc_plane::window_start(t, pic, start(t, across, gmv.x), start(t, down, gmv.y))
 }
 
 // Where a block is predicted from, and how.
