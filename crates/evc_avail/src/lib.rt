@@ -161,6 +161,7 @@ impl<'a, R: Region> Neighbours<'a, R> {
             result ≡ unit_of b (first_column b) (below b) }
     {
         self.block
+            .placed()
             .down()
             .goes_on()
             .then_some(Scu(self.first.0 + self.down.0))
@@ -184,7 +185,11 @@ impl<'a, R: Region> Neighbours<'a, R> {
         ensures { let b = self.now.block.given in
             (row : ℕ) → unit_of b (last_column b) row ≡ Some last → result ≡ unit_of b (right_of b) row }
     {
-        self.block.across().goes_on().then_some(Scu(last.0 + 1))
+        self.block
+            .placed()
+            .across()
+            .goes_on()
+            .then_some(Scu(last.0 + 1))
     }
 
     // The same, of one in its first column.
@@ -310,7 +315,7 @@ fn checked(block: EvcBlock, map_scu: &[u32]) -> Result<Block, Refusal>
     ensures value { IfOk result (λ b. b.given ≡ block) }
 {
     let b = Block::new(block)?;
-    if evc_map::words_short(b.picture(), map_scu.len()) {
+    if evc_map::words_short(b.picture().sides(), map_scu.len()) {
         return Err(Refusal::Buffer);
     }
     Ok(b)

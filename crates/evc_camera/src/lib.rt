@@ -199,13 +199,14 @@ pub fn camera_motion(
     ensures { answer_of result ≡ camera_motion pic_w pic_h map_mv.now map_scu.now }
 {
     let pic = Picture::new(pic_w, pic_h)?;
-    if evc_map::map_short(pic, map_mv.len()) | evc_map::words_short(pic, map_scu.len()) {
+    let sides = pic.sides();
+    if evc_map::map_short(sides, map_mv.len()) | evc_map::words_short(sides, map_scu.len()) {
         return Err(Refusal::Buffer);
     }
     let maps = UnitMaps {
         map_mv,
         map_scu,
-        units: evc_map::unit_count(pic).index(),
+        units: evc_map::unit_count(sides).index(),
     };
     Ok(motion_of(maps.sums()))
 }

@@ -6,6 +6,15 @@ ghost use Rattle.evc_def.specs.Codes.{first_of, block_checks};
 
 use super::{EvcBlock, Refusal};
 
+// Sides no longer than a picture's, of a picture that need not be accepted.
+#[derive(Clone, Copy)]
+pub struct Sides {
+    pub w: u32,
+    pub h: u32,
+    pub ghost width: { w ≤ 8128 },
+    pub ghost height: { h ≤ 8128 },
+}
+
 // The sides of a picture.
 #[derive(Clone, Copy)]
 pub struct Picture {
@@ -30,6 +39,15 @@ impl Picture {
         }
         Ok(Picture { w, h })
     }
+
+    pub fn sides(self) -> Sides
+        ensures { (result.w ≡ self.w) × (result.h ≡ self.h) }
+    {
+        Sides {
+            w: self.w,
+            h: self.h,
+        }
+    }
 }
 
 // A block in one direction: its side at a place in a picture of that size.
@@ -44,11 +62,40 @@ pub struct Span {
 impl Span {
     ghost use Rattle.std.specs.Prelude.{not, eqb, ◌+◌};
 
-    // Whether the picture goes on behind the block. The sum is that of the check, so that it is formed once.
     pub fn goes_on(self) -> bool
         ensures { result ≡ not (eqb (self.place + self.side) self.size) }
     {
-        self.place as u64 + self.side as u64 != self.size as u64
+        super::goes_on(self.size, self.place, self.side)
+    }
+}
+
+// A block that lies in its picture, of sides that need not be a block's.
+#[derive(Clone, Copy)]
+pub struct Placed {
+    pub given: EvcBlock,
+    pub ghost across: { Allowed given.pic_w given.x given.w },
+    pub ghost down: { Allowed given.pic_h given.y given.h },
+}
+
+impl Placed {
+    pub fn across(self) -> Span
+        ensures { (result.size ≡ self.given.pic_w) × (result.place ≡ self.given.x) × (result.side ≡ self.given.w) }
+    {
+        Span {
+            size: self.given.pic_w,
+            place: self.given.x,
+            side: self.given.w,
+        }
+    }
+
+    pub fn down(self) -> Span
+        ensures { (result.size ≡ self.given.pic_h) × (result.place ≡ self.given.y) × (result.side ≡ self.given.h) }
+    {
+        Span {
+            size: self.given.pic_h,
+            place: self.given.y,
+            side: self.given.h,
+        }
     }
 }
 
@@ -89,23 +136,9 @@ impl Block {
         }
     }
 
-    pub fn across(self) -> Span
-        ensures { (result.size ≡ self.given.pic_w) × (result.place ≡ self.given.x) × (result.side ≡ self.given.w) }
+    pub fn placed(self) -> Placed
+        ensures { result.given ≡ self.given }
     {
-        Span {
-            size: self.given.pic_w,
-            place: self.given.x,
-            side: self.given.w,
-        }
-    }
-
-    pub fn down(self) -> Span
-        ensures { (result.size ≡ self.given.pic_h) × (result.place ≡ self.given.y) × (result.side ≡ self.given.h) }
-    {
-        Span {
-            size: self.given.pic_h,
-            place: self.given.y,
-            side: self.given.h,
-        }
+        Placed { given: self.given }
     }
 }

@@ -11,7 +11,7 @@ ghost use Rattle.evc_def.specs.Tables.{tbl_cu_dim_offset, is_bit, is_coded, is_i
 pub mod accepted;
 pub mod refusal;
 
-pub use accepted::{Block, Picture, Span};
+pub use accepted::{Block, Picture, Placed, Sides, Span};
 pub use refusal::{Refusal, code};
 
 // ---- def.rs: numbers
@@ -300,13 +300,20 @@ fn is_inside(size: u32, place: u32, side: u32) -> bool
     place as u64 + side as u64 <= size as u64
 }
 
-fn bad_picture(pic_w: u32, pic_h: u32) -> bool
+// Whether a picture of that size goes on behind that side at that place. The sum is that of `is_inside`, so that it is formed once.
+pub fn goes_on(size: u32, place: u32, side: u32) -> bool
+    ensures { result ≡ not (eqb (place + side) size) }
+{
+    place as u64 + side as u64 != size as u64
+}
+
+pub fn bad_picture(pic_w: u32, pic_h: u32) -> bool
     ensures { result ≡ bad_picture pic_w pic_h }
 {
     !(is_picture_side(pic_w) & is_picture_side(pic_h))
 }
 
-fn bad_block(b: EvcBlock) -> bool
+pub fn bad_block(b: EvcBlock) -> bool
     ensures { result ≡ bad_block b }
 {
     // The places stand together, so that the optimizer makes one test of the two.

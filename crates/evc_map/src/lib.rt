@@ -2,9 +2,9 @@
 
 ghost use Rattle.std.specs.Prelude.{◌≡◌, cond, false, ◌&&◌, ◌+◌, ◌*◌, ◌/◌, ◌<◌, ◌≤◌, ◌^◌, length, get_or, pos};
 ghost use Rattle.evc_def.specs.Lists.{lidx_of};
-ghost use Rattle.evc_map.specs.Maps.{units_of, most_units, scup, word_at, words_short, mv_len, mv_at, map_short, is_present, numbers_of};
+ghost use Rattle.evc_map.specs.Maps.{units_of, most_units, unit_at, scup, word_at, words_short, mv_len, mv_at, map_short, is_present, numbers_of};
 
-use evc_def::{Block, EvcMv, MCU, Pel, Picture, RefList, Scu};
+use evc_def::{Block, EvcMv, MCU, Pel, Picture, RefList, Scu, Sides};
 
 // ---- units
 
@@ -16,18 +16,25 @@ pub fn scu(samples: u32) -> Scu
     Pel::new(samples).scu()
 }
 
-// How many units a picture has.
-pub fn unit_count(pic: Picture) -> Scu
+// How many units a picture of these sides has.
+pub fn unit_count(pic: Sides) -> Scu
     ensures { (result.0 ≡ units_of pic.w pic.h) × (result.0 ≤ most_units) }
 {
     Scu(scu(pic.w).0 * scu(pic.h).0)
+}
+
+pub fn unit_at(pic_w: u32, x: u32, y: u32) -> Scu
+    requires { (pic_w ≤ 8128) × (x ≤ 8128) × (y ≤ 8128) }
+    ensures { result.0 ≡ unit_at pic_w x y }
+{
+    Scu(scu(y).0 * scu(pic_w).0 + scu(x).0)
 }
 
 // The block's first unit.
 pub fn first_unit(b: Block) -> Scu
     ensures { result.0 ≡ scup b.given }
 {
-    Scu(scu(b.given.y).0 * scu(b.given.pic_w).0 + scu(b.given.x).0)
+    unit_at(b.given.pic_w, b.given.x, b.given.y)
 }
 
 // ---- unit words
@@ -41,7 +48,7 @@ pub fn mcu_at(map_scu: &[u32], scup: Scu) -> MCU
 }
 
 // As many words are too few for the picture.
-pub fn words_short(pic: Picture, words: usize) -> bool
+pub fn words_short(pic: Sides, words: usize) -> bool
     ensures { result ≡ words_short pic.w pic.h words }
 {
     words < unit_count(pic).index()
@@ -65,7 +72,7 @@ pub fn mv_at(map_mv: &[i16], scup: Scu, list: RefList) -> EvcMv
 }
 
 // A map of this length is too short for the picture.
-pub fn map_short(pic: Picture, map_mv: usize) -> bool
+pub fn map_short(pic: Sides, map_mv: usize) -> bool
     ensures { result ≡ map_short pic.w pic.h map_mv }
 {
     map_mv < MAP_MV_LEN * unit_count(pic).index()
@@ -76,7 +83,7 @@ pub fn col_short(pic: Picture, col_mv: Option<&[i16]>) -> bool
     ensures { result ≡ (is_present col_mv.entry && map_short pic.w pic.h (length (numbers_of col_mv.entry))) }
 {
     match col_mv {
-        Some(map) => map_short(pic, map.len()),
+        Some(map) => map_short(pic.sides(), map.len()),
         None => false,
     }
 }

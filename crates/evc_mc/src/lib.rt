@@ -240,7 +240,7 @@ fn list_moved(b: Block, list: EvcList) -> EvcMoved
     if !list.used {
         return EvcMoved::default();
     }
-    evc_clip::moved_mv(b, list.mv)
+    evc_clip::moved_mv(b.placed(), list.mv)
 }
 
 // ---- the call
@@ -304,8 +304,9 @@ pub fn evc_mc2(
         pred1.new ≡ mc2_second block l0 l1 pred0.old pred1.old }
 {
     let b = Block::new(block)?;
-    let gmv0 = evc_clip::clipped_place(b, list0.mv);
-    let gmv1 = evc_clip::clipped_place(b, list1.mv);
+    let placed = b.placed();
+    let gmv0 = evc_clip::clipped_place(placed, list0.mv);
+    let gmv1 = evc_clip::clipped_place(placed, list1.mv);
     check_lists(
         b, list0, gmv0, y0, u0, v0, list1, gmv1, y1, u1, v1, pred0, pred1,
     )?;

@@ -38,7 +38,7 @@ fn neighbour_mv(map_mv: &[i16], list: RefList, flagged: bool, scup: Scu, back: S
 fn flag_outside(b: Block, avail: u16) -> bool
     ensures { result ≡ flag_outside b.given avail }
 {
-    let right = b.across().goes_on();
+    let right = b.placed().across().goes_on();
     if (b.given.x != 0) & (b.given.y != 0) & right {
         false
     } else {
@@ -51,7 +51,7 @@ fn flag_outside(b: Block, avail: u16) -> bool
 fn maps_short(b: Block, map_mv: &[i16], col_mv: Option<&[i16]>) -> bool
     ensures { result ≡ maps_short b.given (length map_mv.now) (is_present col_mv.entry) (length (numbers_of col_mv.entry)) }
 {
-    evc_map::map_short(b.picture(), map_mv.len()) | evc_map::col_short(b.picture(), col_mv)
+    evc_map::map_short(b.picture().sides(), map_mv.len()) | evc_map::col_short(b.picture(), col_mv)
 }
 
 fn candidates(

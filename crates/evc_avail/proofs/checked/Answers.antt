@@ -14,10 +14,10 @@ returns-in_err-b-clause-code c =
 
 pub returns-then-words_short-clause-code : goal.returns-then-words_short-clause-code
 returns-then-words_short-clause-code c =
-    let test = simp (c.picture.ensures.0, c.picture.ensures.1, c.in_ok-b.ensures.value) at c.words_short.ensures in
+    let test = simp (c.sides.ensures.0, c.sides.ensures.1, c.picture.ensures.0, c.picture.ensures.1, c.in_ok-b.ensures.value) at c.words_short.ensures in
     sym (goes_on 0 (block_checks _) _ tt (sym c.in_ok-b.ensures.code) ∙ refused _ _ _ (sym test ∙ c.if-words_short.true))
 
 pub returns-clause-code : goal.returns-clause-code
 returns-clause-code c =
-    let test = simp (c.picture.ensures.0, c.picture.ensures.1, c.in_ok-b.ensures.value) at c.words_short.ensures in
+    let test = simp (c.sides.ensures.0, c.sides.ensures.1, c.picture.ensures.0, c.picture.ensures.1, c.in_ok-b.ensures.value) at c.words_short.ensures in
     sym (goes_on 0 (block_checks _) _ tt (sym c.in_ok-b.ensures.code) ∙ passed _ _ _ (sym test ∙ c.if-words_short.false) ∙ none)

@@ -41,12 +41,12 @@ pub returns-then-map_short-words_short : goal.returns-then-map_short-words_short
 returns-then-map_short-words_short c =
     let w = c.in_ok-pic.ensures.value in
     let good = (accepted 1 _ _ (omega arith) (sym c.in_ok-pic.ensures.code)).0 in
-    let short = ap₂ ◌||◌ (simp (w.0, w.1) at c.map_short.ensures) (simp (w.0, w.1) at c.words_short.ensures) in
+    let short = ap₂ ◌||◌ (simp (c.sides-sides.ensures.0, c.sides-sides.ensures.1, w.0, w.1) at c.map_short.ensures) (simp (c.sides-sides.ensures.0, c.sides-sides.ensures.1, w.0, w.1) at c.words_short.ensures) in
     refusal c.args.pic_w c.args.pic_h c.args.map_mv.now c.args.map_scu.now Buffer (sym (passed _ _ _ good ∙ refused _ _ _ (sym short ∙ c.if-map_short-words_short.true)))
 
 pub returns : goal.returns
 returns c =
     let w = c.in_ok-pic.ensures.value in
     let good = (accepted 1 _ _ (omega arith) (sym c.in_ok-pic.ensures.code)).0 in
-    let short = ap₂ ◌||◌ (simp (w.0, w.1) at c.map_short.ensures) (simp (w.0, w.1) at c.words_short.ensures) in
-    done c.args.pic_w c.args.pic_h c.args.map_mv.now c.args.map_scu.now _ _ _ (passed _ _ _ good ∙ passed _ _ _ (sym short ∙ c.if-map_short-words_short.false) ∙ none) (c.index.ensures ∙ (simp (w.0, w.1) at c.unit_count.ensures.0)) c.sums.ensures.0 c.motion_of.ensures
+    let short = ap₂ ◌||◌ (simp (c.sides-sides.ensures.0, c.sides-sides.ensures.1, w.0, w.1) at c.map_short.ensures) (simp (c.sides-sides.ensures.0, c.sides-sides.ensures.1, w.0, w.1) at c.words_short.ensures) in
+    done c.args.pic_w c.args.pic_h c.args.map_mv.now c.args.map_scu.now _ _ _ (passed _ _ _ good ∙ passed _ _ _ (sym short ∙ c.if-map_short-words_short.false) ∙ none) (c.index.ensures ∙ (simp (c.sides-sides.ensures.0, c.sides-sides.ensures.1, w.0, w.1) at c.unit_count.ensures.0)) c.sums.ensures.0 c.motion_of.ensures

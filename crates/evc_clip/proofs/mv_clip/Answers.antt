@@ -1,5 +1,5 @@
 -- `evc_clip::mv_clip` meets its contract: refused with zeros, or clipped. Assumes nothing.
-use mathlib.Core.Path.{◌≡◌, sym}
+use mathlib.Core.Path.{◌≡◌, sym, ◌∙◌}
 use borrow.Author.Tests.{ne_eqb}
 use Rattle.std.proofs.Common.{Err}
 use Rattle.std.proofs.lemmas.Result.{err_from_is_err_and}
@@ -28,4 +28,4 @@ returns-in_err-b c =
     rw (p.1, p.2) (refusal _ _ _ c.in_err-b.ensures.code)
 
 pub returns : goal.returns
-returns c = done _ _ _ _ _ c.in_ok-b.ensures.value c.in_ok-b.ensures.code c.clip_mv.ensures c.moved_mv.ensures
+returns c = done _ _ _ _ _ (c.placed-placed.ensures ∙ c.in_ok-b.ensures.value) c.in_ok-b.ensures.code c.clip_mv.ensures c.moved_mv.ensures

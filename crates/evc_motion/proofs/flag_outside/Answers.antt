@@ -32,8 +32,8 @@ on b place side size r e s = e ∙ rw (s.0, s.1, s.2)
 
 pub returns-then-b-right : goal.returns-then-b-right
 returns-then-b-right c =
-    inner c.args.b.given c.args.avail _ (on c.args.b.given _ _ _ _ c.goes_on-right.ensures c.across.ensures) c.if-b-right.true
+    inner c.args.b.given c.args.avail _ (on c.args.b.given _ _ _ _ c.goes_on-right.ensures (simp (c.placed.ensures) at c.across.ensures)) c.if-b-right.true
 
 pub returns-else-b-right : goal.returns-else-b-right
 returns-else-b-right c =
-    at_edge c.args.b.given c.args.avail _ (on c.args.b.given _ _ _ _ c.goes_on-right.ensures c.across.ensures) _ _ _ c.GET_AVAIL_FLAG.ensures c.GET_AVAIL_FLAG-else-b-right.ensures c.GET_AVAIL_FLAG-else-b-right-2.ensures
+    at_edge c.args.b.given c.args.avail _ (on c.args.b.given _ _ _ _ c.goes_on-right.ensures (simp (c.placed.ensures) at c.across.ensures)) _ _ _ c.GET_AVAIL_FLAG.ensures c.GET_AVAIL_FLAG-else-b-right.ensures c.GET_AVAIL_FLAG-else-b-right-2.ensures
