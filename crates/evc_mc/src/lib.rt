@@ -79,7 +79,7 @@ impl Planes<'_> {
     }
 }
 
-// A list and the picture that it refers to.
+// A list and the picture that it refers to. It is lent: a copy for each call that is not built in costs a block some 20 ns.
 #[derive(Clone, Copy)]
 pub struct RefPicList<'a> {
     pub list: EvcList,
@@ -87,22 +87,22 @@ pub struct RefPicList<'a> {
 }
 
 impl RefPicList<'_> {
-    fn is_short(self, b: Block) -> bool
-        ensures { result ≡ list_short b.given (list_of self.entry) }
+    fn is_short(&self, b: Block) -> bool
+        ensures { result ≡ list_short b.given (list_of self.now) }
     {
         self.list.used & self.planes.are_short(b.picture())
     }
 
-    fn poc_exceeds(self) -> bool
-        ensures { result ≡ poc_exceeds self.entry.list }
+    fn poc_exceeds(&self) -> bool
+        ensures { result ≡ poc_exceeds self.now.list }
     {
         self.list.used & (MAX_POC < self.list.poc)
     }
 
-    fn exceeds(self, b: Block, gmv: QpelPlace) -> bool
-        requires gmv_value { gmv ≡ clipped_place b.given self.list.mv }
-        requires long_enough { list_short b.given (list_of self) ≡ false }
-        ensures { result ≡ list_exceeds b.given (list_of self.entry) }
+    fn exceeds(&self, b: Block, gmv: QpelPlace) -> bool
+        requires gmv_value { gmv ≡ clipped_place b.given self.now.list.mv }
+        requires long_enough { list_short b.given (list_of self.now) ≡ false }
+        ensures { result ≡ list_exceeds b.given (list_of self.now) }
     {
         if !self.list.used {
             return false;
@@ -116,12 +116,12 @@ impl RefPicList<'_> {
     }
 
     // The three planes, if the list is in use, to the block that is picked.
-    fn predict(self, b: Block, gmv: QpelPlace, pred0: &mut [u16], pred1: &mut [u16], second: bool)
-        requires gmv_value { gmv ≡ clipped_place b.given self.list.mv }
-        requires list_examined { ListExamined b.given gmv (list_of self) }
+    fn predict(&self, b: Block, gmv: QpelPlace, pred0: &mut [u16], pred1: &mut [u16], second: bool)
+        requires gmv_value { gmv ≡ clipped_place b.given self.now.list.mv }
+        requires list_examined { ListExamined b.given gmv (list_of self.now) }
         requires pred_len_in_bounds { (pred_len ≤ length pred0.old) × (pred_len ≤ length pred1.old) }
-        ensures pred0_after { pred0.new ≡ cond second pred0.old (with_list b.given (list_of self.entry) pred0.old) }
-        ensures pred1_after { pred1.new ≡ cond second (with_list b.given (list_of self.entry) pred1.old) pred1.old }
+        ensures pred0_after { pred0.new ≡ cond second pred0.old (with_list b.given (list_of self.now) pred0.old) }
+        ensures pred1_after { pred1.new ≡ cond second (with_list b.given (list_of self.now) pred1.old) pred1.old }
     {
         if !self.list.used {
             return;
@@ -160,8 +160,8 @@ impl RefPicList<'_> {
     }
 
     // A list that is not in use has no report.
-    fn moved(self, b: Block) -> EvcMoved
-        ensures { result ≡ list_moved b.given self.entry.list }
+    fn moved(&self, b: Block) -> EvcMoved
+        ensures { result ≡ list_moved b.given self.now.list }
     {
         if !self.list.used {
             return EvcMoved::default();
@@ -173,15 +173,15 @@ impl RefPicList<'_> {
 // 3 to 6, of a block that is allowed.
 fn check_lists(
     b: Block,
-    l0: RefPicList,
+    l0: &RefPicList,
     gmv0: QpelPlace,
-    l1: RefPicList,
+    l1: &RefPicList,
     gmv1: QpelPlace,
     pred0: &[u16],
     pred1: &[u16],
 ) -> Result<(), Refusal>
-    requires { (gmv0 ≡ clipped_place b.given l0.list.mv) × (gmv1 ≡ clipped_place b.given l1.list.mv) }
-    ensures { code_of result ≡ mc2_code b.given (list_of l0.entry) (list_of l1.entry) pred0.now pred1.now }
+    requires { (gmv0 ≡ clipped_place b.given l0.now.list.mv) × (gmv1 ≡ clipped_place b.given l1.now.list.mv) }
+    ensures { code_of result ≡ mc2_code b.given (list_of l0.now) (list_of l1.now) pred0.now pred1.now }
 {
     if !(l0.list.used | l1.list.used) {
         return Err(Refusal::List);
@@ -241,18 +241,18 @@ fn same_motion(list0: EvcList, gmv0: QpelPlace, list1: EvcList, gmv1: QpelPlace)
 
 fn predict_lists(
     b: Block,
-    l0: RefPicList,
+    l0: &RefPicList,
     gmv0: QpelPlace,
-    l1: RefPicList,
+    l1: &RefPicList,
     gmv1: QpelPlace,
     pred0: &mut [u16],
     pred1: &mut [u16],
 )
-    requires gmv_values { (gmv0 ≡ clipped_place b.given l0.list.mv) × (gmv1 ≡ clipped_place b.given l1.list.mv) }
-    requires accepted { mc2_code b.given (list_of l0) (list_of l1) pred0.old pred1.old ≡ 0 }
-    ensures pred0_after { pred0.new ≡ with_samples b.given (first_sample b.given (list_of l0.entry) (list_of l1.entry)) pred0.old }
-    ensures pred1_after { let samples = list_sample b.given (list_of l1.entry) in
-        pred1.new ≡ cond (is_bi b.given l0.entry.list l1.entry.list) (with_samples b.given samples pred1.old) pred1.old }
+    requires gmv_values { (gmv0 ≡ clipped_place b.given l0.now.list.mv) × (gmv1 ≡ clipped_place b.given l1.now.list.mv) }
+    requires accepted { mc2_code b.given (list_of l0.now) (list_of l1.now) pred0.old pred1.old ≡ 0 }
+    ensures pred0_after { pred0.new ≡ with_samples b.given (first_sample b.given (list_of l0.now) (list_of l1.now)) pred0.old }
+    ensures pred1_after { let samples = list_sample b.given (list_of l1.now) in
+        pred1.new ≡ cond (is_bi b.given l0.now.list l1.now.list) (with_samples b.given samples pred1.old) pred1.old }
 {
     let both = l0.list.used & l1.list.used;
     l0.predict(b, gmv0, pred0, pred1, false);
@@ -268,14 +268,14 @@ fn predict_lists(
 
 pub fn evc_mc2(
     block: EvcBlock,
-    l0: RefPicList,
-    l1: RefPicList,
+    l0: &RefPicList,
+    l1: &RefPicList,
     pred0: &mut [u16],
     pred1: &mut [u16],
 ) -> Result<ListsMoved, Refusal>
-    ensures result_value { answer_of result ≡ mc2_answer block (list_of l0.entry) (list_of l1.entry) pred0.old pred1.old }
-    ensures pred0_after { pred0.new ≡ mc2_first block (list_of l0.entry) (list_of l1.entry) pred0.old pred1.old }
-    ensures pred1_after { pred1.new ≡ mc2_second block (list_of l0.entry) (list_of l1.entry) pred0.old pred1.old }
+    ensures result_value { answer_of result ≡ mc2_answer block (list_of l0.now) (list_of l1.now) pred0.old pred1.old }
+    ensures pred0_after { pred0.new ≡ mc2_first block (list_of l0.now) (list_of l1.now) pred0.old pred1.old }
+    ensures pred1_after { pred1.new ≡ mc2_second block (list_of l0.now) (list_of l1.now) pred0.old pred1.old }
 {
     let b = Block::new(block)?;
     let gmv0 = evc_clip::clipped_place(b, l0.list.mv);

@@ -170,7 +170,7 @@ fn predict_record(
         list: list1(r, m),
         planes: ref1,
     };
-    evc_mc::evc_mc2(block_of(h, r), l0, l1, pred0, pred1)
+    evc_mc::evc_mc2(block_of(h, r), &l0, &l1, pred0, pred1)
 }
 
 // One record: its number and reports, and on 0 its block in the target.

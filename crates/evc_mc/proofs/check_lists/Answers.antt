@@ -46,8 +46,8 @@ returns-then-not-l0-l1 c = code_3 _ _ _ _ _ c.args.b.checked (ap not c.if-not-l0
 pub returns-then-is_short-pred0 : goal.returns-then-is_short-pred0
 returns-then-is_short-pred0 c =
     let a = c.args in
-    let l = list_of a.l0 in
-    let m = list_of a.l1 in
+    let l = list_of a.l0.now in
+    let m = list_of a.l1.now in
     let some = ap not c.if-not-l0-l1.false in
     let short = ap₂ (λ (s t : Bool). s || t || ltb (length a.pred0.now) pred_len || ltb (length a.pred1.now) pred_len) c.is_short.ensures c.is_short-2.ensures in
     code_4 a.b.given l m a.pred0.now a.pred1.now a.b.checked some (sym short ∙ c.if-is_short-pred0.true)
@@ -55,8 +55,8 @@ returns-then-is_short-pred0 c =
 pub returns-then-poc_exceeds : goal.returns-then-poc_exceeds
 returns-then-poc_exceeds c =
     let a = c.args in
-    let l = list_of a.l0 in
-    let m = list_of a.l1 in
+    let l = list_of a.l0.now in
+    let m = list_of a.l1.now in
     let some = ap not c.if-not-l0-l1.false in
     let short = ap₂ (λ (s t : Bool). s || t || ltb (length a.pred0.now) pred_len || ltb (length a.pred1.now) pred_len) c.is_short.ensures c.is_short-2.ensures in
     let poc = ap₂ ◌||◌ c.poc_exceeds.ensures c.poc_exceeds-2.ensures in
@@ -65,8 +65,8 @@ returns-then-poc_exceeds c =
 pub returns-then-exceeds : goal.returns-then-exceeds
 returns-then-exceeds c =
     let a = c.args in
-    let l = list_of a.l0 in
-    let m = list_of a.l1 in
+    let l = list_of a.l0.now in
+    let m = list_of a.l1.now in
     let some = ap not c.if-not-l0-l1.false in
     let short = ap₂ (λ (s t : Bool). s || t || ltb (length a.pred0.now) pred_len || ltb (length a.pred1.now) pred_len) c.is_short.ensures c.is_short-2.ensures in
     let poc = ap₂ ◌||◌ c.poc_exceeds.ensures c.poc_exceeds-2.ensures in
@@ -76,8 +76,8 @@ returns-then-exceeds c =
 pub returns : goal.returns
 returns c =
     let a = c.args in
-    let l = list_of a.l0 in
-    let m = list_of a.l1 in
+    let l = list_of a.l0.now in
+    let m = list_of a.l1.now in
     let some = ap not c.if-not-l0-l1.false in
     let short = ap₂ (λ (s t : Bool). s || t || ltb (length a.pred0.now) pred_len || ltb (length a.pred1.now) pred_len) c.is_short.ensures c.is_short-2.ensures in
     let poc = ap₂ ◌||◌ c.poc_exceeds.ensures c.poc_exceeds-2.ensures in

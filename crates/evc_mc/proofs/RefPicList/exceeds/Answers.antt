@@ -30,21 +30,21 @@ module _ (b : EvcBlock) (l : RefPicList) where
 pub returns-then-not-self : goal.returns-then-not-self
 returns-then-not-self c =
     let a = c.args in
-    unused a.b.given (list_of a.self) c.if-not-self.true
+    unused a.b.given (list_of a.self.now) c.if-not-self.true
 
 pub window_exceeds-requires : goal.window_exceeds-requires
 window_exceeds-requires c =
     let a = c.args in
-    let z = sides a.b.given a.b.checked in record { sides = (z.w_side, z.h_side); long_enough = rw (c.picture-pic.ensures.0, c.picture-pic.ensures.1) (list_long a.b.given (list_of a.self) c.if-not-self.false c.requires.long_enough luma) }
+    let z = sides a.b.given a.b.checked in record { sides = (z.w_side, z.h_side); long_enough = rw (c.picture-pic.ensures.0, c.picture-pic.ensures.1) (list_long a.b.given (list_of a.self.now) c.if-not-self.false c.requires.long_enough luma) }
 
 pub windows_exceed-requires : goal.windows_exceed-requires
 windows_exceed-requires c =
     let a = c.args in
     let z = sides a.b.given a.b.checked in
-    let l = list_long a.b.given (list_of a.self) c.if-not-self.false c.requires.long_enough in record { sides = (plane_side UV a.b.given.w z.w_side, plane_side UV a.b.given.h z.h_side); long_enough = rw (c.picture-pic.ensures.0, c.picture-pic.ensures.1) (l cb, l cr) }
+    let l = list_long a.b.given (list_of a.self.now) c.if-not-self.false c.requires.long_enough in record { sides = (plane_side UV a.b.given.w z.w_side, plane_side UV a.b.given.h z.h_side); long_enough = rw (c.picture-pic.ensures.0, c.picture-pic.ensures.1) (l cb, l cr) }
 
 pub returns : goal.returns
 returns c =
     let a = c.args in
-    exceeds_is a.b.given (list_of a.self) _ _ _ c.if-not-self.false c.requires.gmv_value
+    exceeds_is a.b.given (list_of a.self.now) _ _ _ c.if-not-self.false c.requires.gmv_value
     (simp (c.picture-pic.ensures.0, c.picture-pic.ensures.1) at c.window_exceeds.ensures) (simp (c.picture-pic.ensures.0, c.picture-pic.ensures.1) at c.windows_exceed.ensures)

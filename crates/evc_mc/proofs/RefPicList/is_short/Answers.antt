@@ -13,4 +13,4 @@ if_used b l short e = rw e
 pub returns : goal.returns
 returns c =
     let a = c.args in
-    if_used a.b.given (list_of a.self) _ (simp (c.picture.ensures.0, c.picture.ensures.1) at c.are_short.ensures)
+    if_used a.b.given (list_of a.self.now) _ (simp (c.picture.ensures.0, c.picture.ensures.1) at c.are_short.ensures)

@@ -21,7 +21,7 @@ zeros : (m : EvcMoved) → (m.x ≡ 0) × (m.y ≡ 0) → m ≡ nothing_moved
 zeros m e = rw (e.0, e.1)
 
 pub returns-then-not-self : goal.returns-then-not-self
-returns-then-not-self c = not_used c.args.b.given c.args.self.list c.default.result c.if-not-self.true (zeros _ c.default.ensures)
+returns-then-not-self c = not_used c.args.b.given c.args.self.now.list c.default.result c.if-not-self.true (zeros _ c.default.ensures)
 
 pub returns : goal.returns
-returns c = used c.args.b.given c.args.self.list _ c.if-not-self.false c.moved_mv.ensures
+returns c = used c.args.b.given c.args.self.now.list _ c.if-not-self.false c.moved_mv.ensures

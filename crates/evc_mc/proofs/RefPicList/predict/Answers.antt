@@ -76,12 +76,12 @@ module _ (b : EvcBlock) (l : RefPicList) where
 
 pub returns-then-not-self : goal.returns-then-not-self
 returns-then-not-self c =
-    let a = c.args in let parts = unused a.b.given (list_of a.self) a.second a.pred0.now a.pred1.now c.if-not-self.true in record { pred0_after = parts.0; pred1_after = parts.1 }
+    let a = c.args in let parts = unused a.b.given (list_of a.self.now) a.second a.pred0.now a.pred1.now c.if-not-self.true in record { pred0_after = parts.0; pred1_after = parts.1 }
 
 pub predict_component-requires : goal.predict_component-requires
 predict_component-requires c =
     let a = c.args in
-    let r = component_room a.b.given (sides a.b.given a.b.checked) luma in record { readable = reads a.b.given (list_of a.self) a.gmv luma _ a.pred0.now a.b.checked (c.requires.list_examined c.if-not-self.false luma) c.requires.pred_len_in_bounds.0 (simp (c.picture-pic.ensures.0, c.picture-pic.ensures.1) at c.position_of-luma.ensures); w_in_bounds = (omega (arith, c.requires.pred_len_in_bounds.0), omega (arith, c.requires.pred_len_in_bounds.1)) }
+    let r = component_room a.b.given (sides a.b.given a.b.checked) luma in record { readable = reads a.b.given (list_of a.self.now) a.gmv luma _ a.pred0.now a.b.checked (c.requires.list_examined c.if-not-self.false luma) c.requires.pred_len_in_bounds.0 (simp (c.picture-pic.ensures.0, c.picture-pic.ensures.1) at c.position_of-luma.ensures); w_in_bounds = (omega (arith, c.requires.pred_len_in_bounds.0), omega (arith, c.requires.pred_len_in_bounds.1)) }
 
 pub predict_component-requires-2 : goal.predict_component-requires-2
 predict_component-requires-2 c =
@@ -89,7 +89,7 @@ predict_component-requires-2 c =
     let k = c.predict_component.auto in
     let o = c.cu_dim_offset-offset_u.ensures in
     let v = c.cu_dim_offset-offset_v.ensures in
-    let r = component_room a.b.given (sides a.b.given a.b.checked) cb in record { readable = reads a.b.given (list_of a.self) a.gmv cb _ a.pred0.now a.b.checked (c.requires.list_examined c.if-not-self.false cb) c.requires.pred_len_in_bounds.0 (simp (c.picture-pic.ensures.0, c.picture-pic.ensures.1) at c.position_of-chroma.ensures); w_in_bounds = (omega (arith, k.pred0, c.requires.pred_len_in_bounds.0), omega (arith, k.pred1, c.requires.pred_len_in_bounds.1)) }
+    let r = component_room a.b.given (sides a.b.given a.b.checked) cb in record { readable = reads a.b.given (list_of a.self.now) a.gmv cb _ a.pred0.now a.b.checked (c.requires.list_examined c.if-not-self.false cb) c.requires.pred_len_in_bounds.0 (simp (c.picture-pic.ensures.0, c.picture-pic.ensures.1) at c.position_of-chroma.ensures); w_in_bounds = (omega (arith, k.pred0, c.requires.pred_len_in_bounds.0), omega (arith, k.pred1, c.requires.pred_len_in_bounds.1)) }
 
 pub predict_component-requires-3 : goal.predict_component-requires-3
 predict_component-requires-3 c =
@@ -97,10 +97,10 @@ predict_component-requires-3 c =
     let k = c.predict_component.auto in
     let m = c.predict_component-2.auto in
     let o = c.cu_dim_offset-offset_v.ensures in
-    let r = component_room a.b.given (sides a.b.given a.b.checked) cr in record { readable = reads a.b.given (list_of a.self) a.gmv cr _ a.pred0.now a.b.checked (c.requires.list_examined c.if-not-self.false cr) c.requires.pred_len_in_bounds.0 (simp (c.picture-pic.ensures.0, c.picture-pic.ensures.1) at c.position_of-chroma.ensures); w_in_bounds = (omega (arith, k.pred0, m.pred0, c.requires.pred_len_in_bounds.0), omega (arith, k.pred1, m.pred1, c.requires.pred_len_in_bounds.1)) }
+    let r = component_room a.b.given (sides a.b.given a.b.checked) cr in record { readable = reads a.b.given (list_of a.self.now) a.gmv cr _ a.pred0.now a.b.checked (c.requires.list_examined c.if-not-self.false cr) c.requires.pred_len_in_bounds.0 (simp (c.picture-pic.ensures.0, c.picture-pic.ensures.1) at c.position_of-chroma.ensures); w_in_bounds = (omega (arith, k.pred0, m.pred0, c.requires.pred_len_in_bounds.0), omega (arith, k.pred1, m.pred1, c.requires.pred_len_in_bounds.1)) }
 
 pub returns : goal.returns
 returns c =
-    let a = c.args in let parts = done a.b.given (list_of a.self) a.gmv c.requires.gmv_value _ _ (simp (c.picture-pic.ensures.0, c.picture-pic.ensures.1) at c.position_of-luma.ensures) (simp (c.picture-pic.ensures.0, c.picture-pic.ensures.1) at c.position_of-chroma.ensures) a.second _ _ a.pred0.now a.pred1.now _ _ _ _ _ _ c.if-not-self.false
+    let a = c.args in let parts = done a.b.given (list_of a.self.now) a.gmv c.requires.gmv_value _ _ (simp (c.picture-pic.ensures.0, c.picture-pic.ensures.1) at c.position_of-luma.ensures) (simp (c.picture-pic.ensures.0, c.picture-pic.ensures.1) at c.position_of-chroma.ensures) a.second _ _ a.pred0.now a.pred1.now _ _ _ _ _ _ c.if-not-self.false
     c.cu_dim_offset-offset_u.ensures c.cu_dim_offset-offset_v.ensures
     c.predict_component.ensures.pred0_after c.predict_component.ensures.pred1_after c.predict_component-2.ensures.pred0_after c.predict_component-2.ensures.pred1_after c.predict_component-3.ensures.pred0_after c.predict_component-3.ensures.pred1_after in record { pred0_after = parts.0; pred1_after = parts.1 }
