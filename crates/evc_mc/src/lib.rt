@@ -5,8 +5,9 @@ ghost use Rattle.evc_int.specs.Lists.{with_row};
 ghost use Rattle.evc_def.specs.Places.{is_same};
 ghost use Rattle.evc_def.specs.Refusals.{code_of};
 ghost use Rattle.evc_clip.specs.Clip.{clipped_place};
-ghost use Rattle.evc_mc.specs.Block.{ref_pic_list, Component, with_samples, list_sample, first_sample, is_bi, average, pred_len};
+ghost use Rattle.evc_mc.specs.Block.{Component, with_samples, list_sample, first_sample, is_bi, average, pred_len};
 ghost use Rattle.evc_mc.specs.Block.{planes_short, list_short, poc_exceeds, list_exceeds, mc2_code, list_moved, answer_of, mc2_answer, mc2_first, mc2_second};
+ghost use Rattle.evc_mc.specs.Lent.{list_of};
 ghost use Rattle.evc_mc.specs.Inner.{ListExamined, with_list, block_sample, RowSmall, BlockSmall};
 
 use evc_clip::EvcMoved;
@@ -56,140 +57,145 @@ impl From<Result<ListsMoved, Refusal>> for EvcPredicted {
     }
 }
 
-// ---- the checks, each over one list
-
 pub const PRED_LEN: usize = 6144;
 
-pub fn planes_short(pic: Picture, y: &[u16], u: &[u16], v: &[u16]) -> bool
-    ensures { result ≡ planes_short pic.w pic.h y.now u.now v.now }
-{
-    let luma = evc_plane::plane_len(PlaneType::Y, pic);
-    let chroma = evc_plane::plane_len(PlaneType::UV, pic);
-    (y.len() < luma) | (u.len() < chroma) | (v.len() < chroma)
+// ---- a list with its picture
+
+// The three planes of a reference picture.
+#[derive(Clone, Copy)]
+pub struct Planes<'a> {
+    pub y: &'a [u16],
+    pub u: &'a [u16],
+    pub v: &'a [u16],
 }
 
-fn list_short(b: Block, list: EvcList, y: &[u16], u: &[u16], v: &[u16]) -> bool
-    ensures { result ≡ list_short b.given (ref_pic_list list y.now u.now v.now) }
-{
-    list.used & planes_short(b.picture(), y, u, v)
-}
-
-fn poc_exceeds(list: EvcList) -> bool
-    ensures { result ≡ poc_exceeds list }
-{
-    list.used & (MAX_POC < list.poc)
-}
-
-fn list_exceeds(b: Block, list: EvcList, gmv: QpelPlace, y: &[u16], u: &[u16], v: &[u16]) -> bool
-    requires gmv_value { gmv ≡ clipped_place b.given list.mv }
-    requires long_enough { list_short b.given (ref_pic_list list y.now u.now v.now) ≡ false }
-    ensures { result ≡ list_exceeds b.given (ref_pic_list list y.now u.now v.now) }
-{
-    if !list.used {
-        return false;
+impl Planes<'_> {
+    pub fn are_short(self, pic: Picture) -> bool
+        ensures { result ≡ planes_short pic.w pic.h self.entry.y.now self.entry.u.now self.entry.v.now }
+    {
+        let luma = evc_plane::plane_len(PlaneType::Y, pic);
+        let chroma = evc_plane::plane_len(PlaneType::UV, pic);
+        (self.y.len() < luma) | (self.u.len() < chroma) | (self.v.len() < chroma)
     }
-    let pic = b.picture();
-    let w = b.given.w;
-    let h = b.given.h;
-    evc_interp::window_exceeds(PlaneType::Y, pic, gmv, w, h, y)
-        | evc_interp::windows_exceed(PlaneType::UV, pic, gmv, w / 2, h / 2, u, v)
+}
+
+// A list and the picture that it refers to. It is lent: a copy for each call that is not built in costs a block some 20 ns.
+#[derive(Clone, Copy)]
+pub struct RefPicList<'a> {
+    pub list: EvcList,
+    pub planes: Planes<'a>,
+}
+
+impl RefPicList<'_> {
+    fn is_short(&self, b: Block) -> bool
+        ensures { result ≡ list_short b.given (list_of self.now) }
+    {
+        self.list.used & self.planes.are_short(b.picture())
+    }
+
+    fn poc_exceeds(&self) -> bool
+        ensures { result ≡ poc_exceeds self.now.list }
+    {
+        self.list.used & (MAX_POC < self.list.poc)
+    }
+
+    fn exceeds(&self, b: Block, gmv: QpelPlace) -> bool
+        requires gmv_value { gmv ≡ clipped_place b.given self.now.list.mv }
+        requires long_enough { list_short b.given (list_of self.now) ≡ false }
+        ensures { result ≡ list_exceeds b.given (list_of self.now) }
+    {
+        if !self.list.used {
+            return false;
+        }
+        let Planes { y, u, v } = self.planes;
+        let pic = b.picture();
+        let w = b.given.w;
+        let h = b.given.h;
+        evc_interp::window_exceeds(PlaneType::Y, pic, gmv, w, h, y)
+            | evc_interp::windows_exceed(PlaneType::UV, pic, gmv, w / 2, h / 2, u, v)
+    }
+
+    // The three planes, if the list is in use, to the block that is picked.
+    fn predict(&self, b: Block, gmv: QpelPlace, pred0: &mut [u16], pred1: &mut [u16], second: bool)
+        requires gmv_value { gmv ≡ clipped_place b.given self.now.list.mv }
+        requires list_examined { ListExamined b.given gmv (list_of self.now) }
+        requires pred_len_in_bounds { (pred_len ≤ length pred0.old) × (pred_len ≤ length pred1.old) }
+        ensures pred0_after { pred0.new ≡ cond second pred0.old (with_list b.given (list_of self.now) pred0.old) }
+        ensures pred1_after { pred1.new ≡ cond second (with_list b.given (list_of self.now) pred1.old) pred1.old }
+    {
+        if !self.list.used {
+            return;
+        }
+        let Planes { y, u, v } = self.planes;
+        let pic = b.picture();
+        let w = b.given.w as usize;
+        let h = b.given.h as usize;
+        let luma = evc_interp::position_of(PlaneType::Y, pic, self.list.mv, gmv);
+        let chroma = evc_interp::position_of(PlaneType::UV, pic, self.list.mv, gmv);
+        let offset_u = evc_def::cu_dim_offset(1);
+        let offset_v = evc_def::cu_dim_offset(2);
+        evc_pick::predict_component(PlaneType::Y, luma, w, h, y, pred0, pred1, second, 0);
+        evc_pick::predict_component(
+            PlaneType::UV,
+            chroma,
+            w / 2,
+            h / 2,
+            u,
+            pred0,
+            pred1,
+            second,
+            offset_u,
+        );
+        evc_pick::predict_component(
+            PlaneType::UV,
+            chroma,
+            w / 2,
+            h / 2,
+            v,
+            pred0,
+            pred1,
+            second,
+            offset_v,
+        );
+    }
+
+    // A list that is not in use has no report.
+    fn moved(&self, b: Block) -> EvcMoved
+        ensures { result ≡ list_moved b.given self.now.list }
+    {
+        if !self.list.used {
+            return EvcMoved::default();
+        }
+        evc_clip::moved_mv(b.placed(), self.list.mv)
+    }
 }
 
 // 3 to 6, of a block that is allowed.
 fn check_lists(
     b: Block,
-    list0: EvcList,
+    l0: &RefPicList,
     gmv0: QpelPlace,
-    y0: &[u16],
-    u0: &[u16],
-    v0: &[u16],
-    list1: EvcList,
+    l1: &RefPicList,
     gmv1: QpelPlace,
-    y1: &[u16],
-    u1: &[u16],
-    v1: &[u16],
     pred0: &[u16],
     pred1: &[u16],
 ) -> Result<(), Refusal>
-    requires { (gmv0 ≡ clipped_place b.given list0.mv) × (gmv1 ≡ clipped_place b.given list1.mv) }
-    ensures { let l0 = ref_pic_list list0 y0.now u0.now v0.now in
-        let l1 = ref_pic_list list1 y1.now u1.now v1.now in
-        code_of result ≡ mc2_code b.given l0 l1 pred0.now pred1.now }
+    requires { (gmv0 ≡ clipped_place b.given l0.now.list.mv) × (gmv1 ≡ clipped_place b.given l1.now.list.mv) }
+    ensures { code_of result ≡ mc2_code b.given (list_of l0.now) (list_of l1.now) pred0.now pred1.now }
 {
-    if !(list0.used | list1.used) {
+    if !(l0.list.used | l1.list.used) {
         return Err(Refusal::List);
     }
-    if list_short(b, list0, y0, u0, v0)
-        | list_short(b, list1, y1, u1, v1)
-        | (pred0.len() < PRED_LEN)
-        | (pred1.len() < PRED_LEN)
-    {
+    if l0.is_short(b) | l1.is_short(b) | (pred0.len() < PRED_LEN) | (pred1.len() < PRED_LEN) {
         return Err(Refusal::Buffer);
     }
-    if poc_exceeds(list0) | poc_exceeds(list1) {
+    if l0.poc_exceeds() | l1.poc_exceeds() {
         return Err(Refusal::OrderCount);
     }
-    if list_exceeds(b, list0, gmv0, y0, u0, v0) | list_exceeds(b, list1, gmv1, y1, u1, v1) {
+    if l0.exceeds(b, gmv0) | l1.exceeds(b, gmv1) {
         return Err(Refusal::Sample);
     }
     Ok(())
-}
-
-// ---- the prediction of one list
-
-// The three planes of a list, if it is in use, to the block that is picked.
-fn predict_list(
-    b: Block,
-    list: EvcList,
-    gmv: QpelPlace,
-    y: &[u16],
-    u: &[u16],
-    v: &[u16],
-    pred0: &mut [u16],
-    pred1: &mut [u16],
-    second: bool,
-)
-    requires gmv_value { gmv ≡ clipped_place b.given list.mv }
-    requires list_examined { ListExamined b.given gmv (ref_pic_list list y.now u.now v.now) }
-    requires pred_len_in_bounds { (pred_len ≤ length pred0.old) × (pred_len ≤ length pred1.old) }
-    ensures pred0_after { let l = ref_pic_list list y.now u.now v.now in
-        pred0.new ≡ cond second pred0.old (with_list b.given l pred0.old) }
-    ensures pred1_after { let l = ref_pic_list list y.now u.now v.now in
-        pred1.new ≡ cond second (with_list b.given l pred1.old) pred1.old }
-{
-    if !list.used {
-        return;
-    }
-    let pic = b.picture();
-    let w = b.given.w as usize;
-    let h = b.given.h as usize;
-    let luma = evc_interp::position_of(PlaneType::Y, pic, list.mv, gmv);
-    let chroma = evc_interp::position_of(PlaneType::UV, pic, list.mv, gmv);
-    let offset_u = evc_def::cu_dim_offset(1);
-    let offset_v = evc_def::cu_dim_offset(2);
-    evc_pick::predict_component(PlaneType::Y, luma, w, h, y, pred0, pred1, second, 0);
-    evc_pick::predict_component(
-        PlaneType::UV,
-        chroma,
-        w / 2,
-        h / 2,
-        u,
-        pred0,
-        pred1,
-        second,
-        offset_u,
-    );
-    evc_pick::predict_component(
-        PlaneType::UV,
-        chroma,
-        w / 2,
-        h / 2,
-        v,
-        pred0,
-        pred1,
-        second,
-        offset_v,
-    );
 }
 
 // ---- two predictions
@@ -231,50 +237,30 @@ fn same_motion(list0: EvcList, gmv0: QpelPlace, list1: EvcList, gmv1: QpelPlace)
     (list0.poc == list1.poc) & (gmv0 == gmv1)
 }
 
-// ---- the reports
-
-// A list that is not in use has none.
-fn list_moved(b: Block, list: EvcList) -> EvcMoved
-    ensures { result ≡ list_moved b.given list }
-{
-    if !list.used {
-        return EvcMoved::default();
-    }
-    evc_clip::moved_mv(b.placed(), list.mv)
-}
-
 // ---- the call
 
 fn predict_lists(
     b: Block,
-    list0: EvcList,
+    l0: &RefPicList,
     gmv0: QpelPlace,
-    y0: &[u16],
-    u0: &[u16],
-    v0: &[u16],
-    list1: EvcList,
+    l1: &RefPicList,
     gmv1: QpelPlace,
-    y1: &[u16],
-    u1: &[u16],
-    v1: &[u16],
     pred0: &mut [u16],
     pred1: &mut [u16],
 )
-    requires gmv_values { (gmv0 ≡ clipped_place b.given list0.mv) × (gmv1 ≡ clipped_place b.given list1.mv) }
-    requires accepted { mc2_code b.given (ref_pic_list list0 y0.now u0.now v0.now) (ref_pic_list list1 y1.now u1.now v1.now) pred0.old pred1.old ≡ 0 }
-    ensures pred0_after { let l0 = ref_pic_list list0 y0.now u0.now v0.now in
-        let l1 = ref_pic_list list1 y1.now u1.now v1.now in
-        pred0.new ≡ with_samples b.given (first_sample b.given l0 l1) pred0.old }
-    ensures pred1_after { let l1 = ref_pic_list list1 y1.now u1.now v1.now in
-        pred1.new ≡ cond (is_bi b.given list0 list1) (with_samples b.given (list_sample b.given l1) pred1.old) pred1.old }
+    requires gmv_values { (gmv0 ≡ clipped_place b.given l0.now.list.mv) × (gmv1 ≡ clipped_place b.given l1.now.list.mv) }
+    requires accepted { mc2_code b.given (list_of l0.now) (list_of l1.now) pred0.old pred1.old ≡ 0 }
+    ensures pred0_after { pred0.new ≡ with_samples b.given (first_sample b.given (list_of l0.now) (list_of l1.now)) pred0.old }
+    ensures pred1_after { let samples = list_sample b.given (list_of l1.now) in
+        pred1.new ≡ cond (is_bi b.given l0.now.list l1.now.list) (with_samples b.given samples pred1.old) pred1.old }
 {
-    let both = list0.used & list1.used;
-    predict_list(b, list0, gmv0, y0, u0, v0, pred0, pred1, false);
+    let both = l0.list.used & l1.list.used;
+    l0.predict(b, gmv0, pred0, pred1, false);
     // Identical motion: list 0 alone stands.
-    if both & same_motion(list0, gmv0, list1, gmv1) {
+    if both & same_motion(l0.list, gmv0, l1.list, gmv1) {
         return;
     }
-    predict_list(b, list1, gmv1, y1, u1, v1, pred0, pred1, list0.used);
+    l1.predict(b, gmv1, pred0, pred1, l0.list.used);
     if both {
         average_block(b, pred0, pred1);
     }
@@ -282,39 +268,23 @@ fn predict_lists(
 
 pub fn evc_mc2(
     block: EvcBlock,
-    list0: EvcList,
-    y0: &[u16],
-    u0: &[u16],
-    v0: &[u16],
-    list1: EvcList,
-    y1: &[u16],
-    u1: &[u16],
-    v1: &[u16],
+    l0: &RefPicList,
+    l1: &RefPicList,
     pred0: &mut [u16],
     pred1: &mut [u16],
 ) -> Result<ListsMoved, Refusal>
-    ensures result_value { let l0 = ref_pic_list list0 y0.now u0.now v0.now in
-        let l1 = ref_pic_list list1 y1.now u1.now v1.now in
-        answer_of result ≡ mc2_answer block l0 l1 pred0.old pred1.old }
-    ensures pred0_after { let l0 = ref_pic_list list0 y0.now u0.now v0.now in
-        let l1 = ref_pic_list list1 y1.now u1.now v1.now in
-        pred0.new ≡ mc2_first block l0 l1 pred0.old pred1.old }
-    ensures pred1_after { let l0 = ref_pic_list list0 y0.now u0.now v0.now in
-        let l1 = ref_pic_list list1 y1.now u1.now v1.now in
-        pred1.new ≡ mc2_second block l0 l1 pred0.old pred1.old }
+    ensures result_value { answer_of result ≡ mc2_answer block (list_of l0.now) (list_of l1.now) pred0.old pred1.old }
+    ensures pred0_after { pred0.new ≡ mc2_first block (list_of l0.now) (list_of l1.now) pred0.old pred1.old }
+    ensures pred1_after { pred1.new ≡ mc2_second block (list_of l0.now) (list_of l1.now) pred0.old pred1.old }
 {
     let b = Block::new(block)?;
     let placed = b.placed();
-    let gmv0 = evc_clip::clipped_place(placed, list0.mv);
-    let gmv1 = evc_clip::clipped_place(placed, list1.mv);
-    check_lists(
-        b, list0, gmv0, y0, u0, v0, list1, gmv1, y1, u1, v1, pred0, pred1,
-    )?;
-    predict_lists(
-        b, list0, gmv0, y0, u0, v0, list1, gmv1, y1, u1, v1, pred0, pred1,
-    );
+    let gmv0 = evc_clip::clipped_place(placed, l0.list.mv);
+    let gmv1 = evc_clip::clipped_place(placed, l1.list.mv);
+    check_lists(b, l0, gmv0, l1, gmv1, pred0, pred1)?;
+    predict_lists(b, l0, gmv0, l1, gmv1, pred0, pred1);
     Ok(ListsMoved {
-        moved0: list_moved(b, list0),
-        moved1: list_moved(b, list1),
+        moved0: l0.moved(b),
+        moved1: l1.moved(b),
     })
 }

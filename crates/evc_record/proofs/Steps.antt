@@ -11,7 +11,7 @@ use Rattle.evc_def.specs.Codes.{first_of, block_checks}
 use Rattle.evc_def.specs.declared.EvcBlock.{EvcBlock}
 use Rattle.evc_def.proofs.Codes.{accepted}
 use Rattle.evc_direct.specs.declared.EvcDirect.{EvcDirect}
-use Rattle.evc_mc.specs.Block.{RefPicList, ref_pic_list, Component, luma, cb, cr, with_samples, first_sample, pred_len, mc2_code, answered, mc2_answer, mc2_first}
+use Rattle.evc_mc.specs.Block.{RefPicList, Component, luma, cb, cr, with_samples, first_sample, pred_len, mc2_code, answered, mc2_answer, mc2_first}
 use Rattle.evc_mc.specs.Inner.{block_sample}
 use Rattle.evc_mc.specs.declared.EvcList.{EvcList}
 use Rattle.evc_mc.specs.declared.EvcPredicted.{EvcPredicted}
@@ -35,13 +35,13 @@ module _ (b : EvcBlock) (l m : RefPicList) (p q : List ℕ) (ep : length p ≡ p
   first_block a d e f z = let g : mc2_code b l m p q ≡ 0 = sym (ap (λ (a : EvcPredicted). a.code) e) ∙ z in rw g at f
 
 -- the block and the lists as the code made them
-pub predicted : (b b' : EvcBlock) (l l' m m' : EvcList) (y0 u0 v0 y1 u1 v1 p q d : List ℕ) (a : EvcPredicted) → length p ≡ pred_len → length q ≡ pred_len → b ≡ b' → l ≡ l' → m ≡ m'
-    → a ≡ mc2_answer b (ref_pic_list l y0 u0 v0) (ref_pic_list m y1 u1 v1) p q → d ≡ mc2_first b (ref_pic_list l y0 u0 v0) (ref_pic_list m y1 u1 v1) p q
-    → (a ≡ mc2_answer b' (ref_pic_list l' y0 u0 v0) (ref_pic_list m' y1 u1 v1) blank blank) × (a.code ≡ 0 → d ≡ with_samples b' (first_sample b' (ref_pic_list l' y0 u0 v0) (ref_pic_list m' y1 u1 v1)) p)
-predicted b b' l l' m m' y0 u0 v0 y1 u1 v1 p q d a ep eq eb el em e f =
-    let e' : a ≡ mc2_answer b' (ref_pic_list l' y0 u0 v0) (ref_pic_list m' y1 u1 v1) p q = e ∙ simp (eb, el, em) in
-    let f' : d ≡ mc2_first b' (ref_pic_list l' y0 u0 v0) (ref_pic_list m' y1 u1 v1) p q = f ∙ simp (eb, el, em) in
-    (e' ∙ ap (λ (c : ℕ). answered c b' l' m') (any_blocks b' (ref_pic_list l' y0 u0 v0) (ref_pic_list m' y1 u1 v1) p q ep eq), first_block b' (ref_pic_list l' y0 u0 v0) (ref_pic_list m' y1 u1 v1) p q ep eq a d e' f')
+pub predicted : (b b' : EvcBlock) (l l' m m' : EvcList) (s t : Planes) (p q d : List ℕ) (a : EvcPredicted) → length p ≡ pred_len → length q ≡ pred_len → b ≡ b' → l ≡ l' → m ≡ m'
+    → a ≡ mc2_answer b (with_planes l s) (with_planes m t) p q → d ≡ mc2_first b (with_planes l s) (with_planes m t) p q
+    → (a ≡ mc2_answer b' (with_planes l' s) (with_planes m' t) blank blank) × (a.code ≡ 0 → d ≡ with_samples b' (first_sample b' (with_planes l' s) (with_planes m' t)) p)
+predicted b b' l l' m m' s t p q d a ep eq eb el em e f =
+    let e' : a ≡ mc2_answer b' (with_planes l' s) (with_planes m' t) p q = e ∙ simp (eb, el, em) in
+    let f' : d ≡ mc2_first b' (with_planes l' s) (with_planes m' t) p q = f ∙ simp (eb, el, em) in
+    (e' ∙ ap (λ (c : ℕ). answered c b' l' m') (any_blocks b' (with_planes l' s) (with_planes m' t) p q ep eq), first_block b' (with_planes l' s) (with_planes m' t) p q ep eq a d e' f')
 
 -- ---- a record's step
 

@@ -13,6 +13,7 @@ use Rattle.evc_clip.specs.Clip.{clip_mv}
 use Rattle.evc_mc.specs.Block.{RefPicList, Component, luma, cb, cr, type_of, width_of, height_of, first_sample, pred_len, planes_short, mc2_code, answered}
 use Rattle.evc_mc.specs.declared.EvcList.{EvcList}
 use Rattle.evc_mc.specs.declared.EvcPredicted.{EvcPredicted}
+use Rattle.evc_mc.specs.declared.Planes.{Planes as LentPlanes}
 use Rattle.evc_trace.specs.Format.{record_len, count_len, record_of, last_byte, is_well_formed}
 use Rattle.evc_trace.specs.declared.TraceHeader.{TraceHeader}
 use Rattle.evc_trace.specs.declared.EvcTraceRecord.{EvcTraceRecord}
@@ -25,6 +26,10 @@ pub record Planes : Type 0 where
 
 abbrev pub planes : List ℕ → List ℕ → List ℕ → Planes
 planes y u v = record { y = y; u = u; v = v }
+
+-- as they are lent
+abbrev pub planes_of : LentPlanes → Planes
+planes_of p = planes p.y.now p.u.now p.v.now
 
 -- 4: "every lent plane"
 unfoldable pub picture_short : ℕ → ℕ → Planes → Bool

@@ -7,15 +7,15 @@ ghost use Rattle.evc_plane.specs.Planes.{side_of, stride_of, plane_len};
 ghost use Rattle.evc_map.specs.Maps.{is_present, numbers_of};
 ghost use Rattle.evc_direct.specs.Direct.{answer_of as direct_answer};
 ghost use Rattle.evc_lanes.specs.Inner.{is_row_width};
-ghost use Rattle.evc_mc.specs.Block.{luma, cb, cr, ref_pic_list, pred_len, answer_of, mc2_answer, with_samples, first_sample};
+ghost use Rattle.evc_mc.specs.Block.{luma, cb, cr, pred_len, answer_of, mc2_answer, with_samples, first_sample};
 ghost use Rattle.evc_mc.specs.Inner.{block_sample};
 ghost use Rattle.evc_trace.specs.Format.{count_len, record_of};
-ghost use Rattle.evc_record.specs.Record.{planes, picture_short, source, block_of, pocs_of, motion_of, list0_of, list1_of, blank, form_code, record_answer, place_in, with_picture};
+ghost use Rattle.evc_record.specs.Record.{planes, planes_of, with_planes, picture_short, source, block_of, pocs_of, motion_of, list0_of, list1_of, blank, form_code, record_answer, place_in, with_picture};
 ghost use Rattle.evc_record.specs.Inner.{after_record};
 
 use evc_def::{Block, EvcBlock, Refusal};
 use evc_direct::{DirectVectors, Pocs};
-use evc_mc::{EvcList, ListsMoved};
+use evc_mc::{EvcList, ListsMoved, Planes, RefPicList};
 use evc_plane::{PlaneSlice, PlaneType};
 use evc_trace::{EvcTraceRecord, RECORD_LEN, TraceHeader};
 
@@ -149,39 +149,36 @@ fn predict_record(
     h: TraceHeader,
     r: EvcTraceRecord,
     m: DirectVectors,
-    y0: &[u16],
-    u0: &[u16],
-    v0: &[u16],
-    y1: &[u16],
-    u1: &[u16],
-    v1: &[u16],
+    ref0: Planes,
+    ref1: Planes,
     pred0: &mut [u16],
     pred1: &mut [u16],
 ) -> Result<ListsMoved, Refusal>
     requires { (length pred0.old ≡ pred_len) × (length pred1.old ≡ pred_len) }
-    ensures result_value { let l0 = ref_pic_list (list0_of r (direct_answer (Ok m))) y0.now u0.now v0.now in
-        let l1 = ref_pic_list (list1_of r (direct_answer (Ok m))) y1.now u1.now v1.now in
+    ensures result_value { let l0 = with_planes (list0_of r (direct_answer (Ok m))) (planes_of ref0.entry) in
+        let l1 = with_planes (list1_of r (direct_answer (Ok m))) (planes_of ref1.entry) in
         answer_of result ≡ mc2_answer (block_of h r) l0 l1 blank blank }
-    ensures pred0_after { let l0 = ref_pic_list (list0_of r (direct_answer (Ok m))) y0.now u0.now v0.now in
-        let l1 = ref_pic_list (list1_of r (direct_answer (Ok m))) y1.now u1.now v1.now in
+    ensures pred0_after { let l0 = with_planes (list0_of r (direct_answer (Ok m))) (planes_of ref0.entry) in
+        let l1 = with_planes (list1_of r (direct_answer (Ok m))) (planes_of ref1.entry) in
         code_of result ≡ 0 → pred0.new ≡ with_samples (block_of h r) (first_sample (block_of h r) l0 l1) pred0.old }
 {
-    let b = block_of(h, r);
-    let l0 = list0(r, m);
-    let l1 = list1(r, m);
-    evc_mc::evc_mc2(b, l0, y0, u0, v0, l1, y1, u1, v1, pred0, pred1)
+    let l0 = RefPicList {
+        list: list0(r, m),
+        planes: ref0,
+    };
+    let l1 = RefPicList {
+        list: list1(r, m),
+        planes: ref1,
+    };
+    evc_mc::evc_mc2(block_of(h, r), &l0, &l1, pred0, pred1)
 }
 
 // One record: its number and reports, and on 0 its block in the target.
 pub fn replay_record(
     h: TraceHeader,
     s: &[u8],
-    y0: &[u16],
-    u0: &[u16],
-    v0: &[u16],
-    y1: &[u16],
-    u1: &[u16],
-    v1: &[u16],
+    ref0: Planes,
+    ref1: Planes,
     col_mv: Option<&[i16]>,
     y: &mut [u16],
     u: &mut [u16],
@@ -191,17 +188,14 @@ pub fn replay_record(
 ) -> Result<ListsMoved, Refusal>
     requires v_value { picture_short h.pic_w h.pic_h (planes y.old u.old v.old) ≡ false }
     requires pred0_len { (length pred0.old ≡ pred_len) × (length pred1.old ≡ pred_len) }
-    ensures result_value { let ref0 = planes y0.now u0.now v0.now in
-        let ref1 = planes y1.now u1.now v1.now in
-        answer_of result ≡ record_answer (source h ref0 ref1 (is_present col_mv.entry) (numbers_of col_mv.entry)) s.now }
-    ensures v_after { let ref0 = planes y0.now u0.now v0.now in
-        let ref1 = planes y1.now u1.now v1.now in
-        let target = planes y.old u.old v.old in
-        planes y.new u.new v.new ≡ after_record (source h ref0 ref1 (is_present col_mv.entry) (numbers_of col_mv.entry)) s.now target }
+    ensures result_value { let from = source h (planes_of ref0.entry) (planes_of ref1.entry) (is_present col_mv.entry) (numbers_of col_mv.entry) in
+        answer_of result ≡ record_answer from s.now }
+    ensures v_after { let from = source h (planes_of ref0.entry) (planes_of ref1.entry) (is_present col_mv.entry) (numbers_of col_mv.entry) in
+        planes y.new u.new v.new ≡ after_record from s.now (planes y.old u.old v.old) }
 {
     let r = checked_record(s)?;
     let m = motion(h, r, col_mv)?;
-    let moved = predict_record(h, r, m, y0, u0, v0, y1, u1, v1, pred0, pred1)?;
+    let moved = predict_record(h, r, m, ref0, ref1, pred0, pred1)?;
     let given = block_of(h, r);
     put_block(Block { given }, pred0, y, u, v);
     Ok(moved)

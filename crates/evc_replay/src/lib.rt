@@ -4,13 +4,13 @@ ghost use Rattle.std.specs.Prelude.{◌≡◌, false, IfOk, ◌≤◌, length, t
 ghost use Rattle.evc_def.specs.Refusals.{code_of};
 ghost use Rattle.evc_map.specs.Maps.{is_present, numbers_of};
 ghost use Rattle.evc_trace.specs.Format.{header_len, record_len, count_len, header_of};
-ghost use Rattle.evc_record.specs.Record.{planes, picture_short, source};
+ghost use Rattle.evc_record.specs.Record.{planes, planes_of, picture_short, source};
 ghost use Rattle.evc_replay.specs.Replay.{answer_in, header_code, records_from, applied, replayed};
 ghost use Rattle.evc_replay.specs.Counts.{finished, counted_over, replayed_counts, counts_in};
 
 use evc_counts::MovedCounts;
 use evc_def::{Picture, Refusal};
-use evc_mc::PRED_LEN;
+use evc_mc::{PRED_LEN, Planes};
 use evc_trace::{HEADER_LEN, RECORD_LEN, TraceHeader};
 
 #[repr(C)]
@@ -54,26 +54,22 @@ fn record_at(trace: &[u8], at: usize) -> &[u8]
 fn replay_records(
     h: TraceHeader,
     trace: &[u8],
-    y0: &[u16],
-    u0: &[u16],
-    v0: &[u16],
-    y1: &[u16],
-    u1: &[u16],
-    v1: &[u16],
+    ref0: Planes,
+    ref1: Planes,
     col_mv: Option<&[i16]>,
     y: &mut [u16],
     u: &mut [u16],
     v: &mut [u16],
 ) -> EvcReplay
     requires { (picture_short h.pic_w h.pic_h (planes y.old u.old v.old) ≡ false) × (header_len count_len ≤ length trace.now) }
-    ensures v_after { let ref0 = planes y0.now u0.now v0.now in
-        let ref1 = planes y1.now u1.now v1.now in
-        let from = source h ref0 ref1 (is_present col_mv.entry) (numbers_of col_mv.entry) in
+    ensures v_after { let first = planes_of ref0.entry in
+        let second = planes_of ref1.entry in
+        let from = source h first second (is_present col_mv.entry) (numbers_of col_mv.entry) in
         let target = planes y.old u.old v.old in
         record { answer = answer_in result; target = planes y.new u.new v.new } ≡ applied from (records_from trace.now (header_len count_len)) 0 target }
-    ensures result_value { let ref0 = planes y0.now u0.now v0.now in
-        let ref1 = planes y1.now u1.now v1.now in
-        let from = source h ref0 ref1 (is_present col_mv.entry) (numbers_of col_mv.entry) in
+    ensures result_value { let first = planes_of ref0.entry in
+        let second = planes_of ref1.entry in
+        let from = source h first second (is_present col_mv.entry) (numbers_of col_mv.entry) in
         counts_in result ≡ counted_over from (finished from (records_from trace.now (header_len count_len))) }
 {
     let mut pred0 = [0u16; PRED_LEN];
@@ -84,7 +80,7 @@ fn replay_records(
     while at < trace.len() {
         let record = record_at(trace, at);
         let moved = match evc_record::replay_record(
-            h, record, y0, u0, v0, y1, u1, v1, col_mv, y, u, v, &mut pred0, &mut pred1,
+            h, record, ref0, ref1, col_mv, y, u, v, &mut pred0, &mut pred1,
         ) {
             Ok(moved) => moved,
             Err(refusal) => return answer(Err(refusal), index, counts),
@@ -100,21 +96,14 @@ fn replay_records(
 
 fn checked_header(
     trace: &[u8],
-    y0: &[u16],
-    u0: &[u16],
-    v0: &[u16],
-    y1: &[u16],
-    u1: &[u16],
-    v1: &[u16],
+    ref0: Planes,
+    ref1: Planes,
     col_mv: Option<&[i16]>,
-    y: &[u16],
-    u: &[u16],
-    v: &[u16],
+    target: Planes,
 ) -> Result<TraceHeader, Refusal>
-    ensures code { let ref0 = planes y0.now u0.now v0.now in
-        let ref1 = planes y1.now u1.now v1.now in
-        let target = planes y.now u.now v.now in
-        code_of result ≡ header_code trace.now ref0 ref1 (is_present col_mv.entry) (numbers_of col_mv.entry) target }
+    ensures code { let first = planes_of ref0.entry in
+        let second = planes_of ref1.entry in
+        code_of result ≡ header_code trace.now first second (is_present col_mv.entry) (numbers_of col_mv.entry) (planes_of target.entry) }
     ensures value { IfOk result (λ h. h ≡ header_of count_len trace.now) }
 {
     if trace.len() < HEADER_LEN {
@@ -125,9 +114,9 @@ fn checked_header(
     }
     let h = evc_trace::read_header(trace);
     let pic = Picture::new(h.pic_w, h.pic_h)?;
-    if evc_mc::planes_short(pic, y0, u0, v0)
-        | evc_mc::planes_short(pic, y1, u1, v1)
-        | evc_mc::planes_short(pic, y, u, v)
+    if ref0.are_short(pic)
+        | ref1.are_short(pic)
+        | target.are_short(pic)
         | evc_map::col_short(pic, col_mv)
     {
         return Err(Refusal::Buffer);
@@ -137,28 +126,24 @@ fn checked_header(
 
 pub fn evc_trace_replay(
     trace: &[u8],
-    y0: &[u16],
-    u0: &[u16],
-    v0: &[u16],
-    y1: &[u16],
-    u1: &[u16],
-    v1: &[u16],
+    ref0: Planes,
+    ref1: Planes,
     col_mv: Option<&[i16]>,
     y: &mut [u16],
     u: &mut [u16],
     v: &mut [u16],
 ) -> EvcReplay
-    ensures v_after { let ref0 = planes y0.now u0.now v0.now in
-        let ref1 = planes y1.now u1.now v1.now in
+    ensures v_after { let first = planes_of ref0.entry in
+        let second = planes_of ref1.entry in
         let target = planes y.old u.old v.old in
-        record { answer = answer_in result; target = planes y.new u.new v.new } ≡ replayed trace.now ref0 ref1 (is_present col_mv.entry) (numbers_of col_mv.entry) target }
-    ensures result_value { let ref0 = planes y0.now u0.now v0.now in
-        let ref1 = planes y1.now u1.now v1.now in
+        record { answer = answer_in result; target = planes y.new u.new v.new } ≡ replayed trace.now first second (is_present col_mv.entry) (numbers_of col_mv.entry) target }
+    ensures result_value { let first = planes_of ref0.entry in
+        let second = planes_of ref1.entry in
         let target = planes y.old u.old v.old in
-        counts_in result ≡ replayed_counts trace.now ref0 ref1 (is_present col_mv.entry) (numbers_of col_mv.entry) target }
+        counts_in result ≡ replayed_counts trace.now first second (is_present col_mv.entry) (numbers_of col_mv.entry) target }
 {
-    match checked_header(trace, y0, u0, v0, y1, u1, v1, col_mv, y, u, v) {
-        Ok(h) => replay_records(h, trace, y0, u0, v0, y1, u1, v1, col_mv, y, u, v),
+    match checked_header(trace, ref0, ref1, col_mv, Planes { y, u, v }) {
+        Ok(h) => replay_records(h, trace, ref0, ref1, col_mv, y, u, v),
         Err(refusal) => answer(Err(refusal), 0, MovedCounts::default()),
     }
 }

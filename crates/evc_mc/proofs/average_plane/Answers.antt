@@ -4,7 +4,7 @@ use mathlib.Core.List.{List}
 use mathlib.Core.Logic.{inr}
 use mathlib.Core.Path.{◌≡◌, refl, ap, ◌∙◌}
 use native.Mathlib.Omega.{arith}
-use lib.ListN.{length-set, get_or}
+use lib.ListN.{get_or}
 use Rattle.evc_int.specs.Lists.{with_row}
 use Rattle.evc_int.proofs.Lists.{row_step, with_row-out}
 use Rattle.evc_mc.specs.Block.{average}

@@ -8,7 +8,8 @@ use lib.ListN.{length}
 use Rattle.evc_def.specs.Codes.{first_of, block_checks}
 use Rattle.evc_def.specs.declared.EvcBlock.{EvcBlock}
 use Rattle.evc_def.proofs.Codes.{refused, passed, none, goes_on}
-use Rattle.evc_mc.specs.Block.{RefPicList, ref_pic_list, list_short, poc_exceeds, list_exceeds, pred_len, mc2_code}
+use Rattle.evc_mc.specs.Block.{RefPicList, list_short, poc_exceeds, list_exceeds, pred_len, mc2_code}
+use Rattle.evc_mc.specs.Lent.{list_of}
 use Rattle.evc_mc.proofs.check_lists.Goals as goal
 
 module _ (b : EvcBlock) (l m : RefPicList) (p q : List ℕ) where
@@ -39,46 +40,46 @@ module _ (b : EvcBlock) (l m : RefPicList) (p q : List ℕ) where
 either_is : (a b c d : Bool) → a ≡ c → b ≡ d → (a || b) ≡ (c || d)
 either_is a b c d e f = ap₂ ◌||◌ e f
 
-pub returns-then-not-list0-list1 : goal.returns-then-not-list0-list1
-returns-then-not-list0-list1 c = code_3 _ _ _ _ _ c.args.b.checked (ap not c.if-not-list0-list1.true)
+pub returns-then-not-l0-l1 : goal.returns-then-not-l0-l1
+returns-then-not-l0-l1 c = code_3 _ _ _ _ _ c.args.b.checked (ap not c.if-not-l0-l1.true)
 
-pub returns-then-list_short-pred0 : goal.returns-then-list_short-pred0
-returns-then-list_short-pred0 c =
+pub returns-then-is_short-pred0 : goal.returns-then-is_short-pred0
+returns-then-is_short-pred0 c =
     let a = c.args in
-    let l = ref_pic_list a.list0 a.y0.now a.u0.now a.v0.now in
-    let m = ref_pic_list a.list1 a.y1.now a.u1.now a.v1.now in
-    let some = ap not c.if-not-list0-list1.false in
-    let short = ap₂ (λ (s t : Bool). s || t || ltb (length a.pred0.now) pred_len || ltb (length a.pred1.now) pred_len) c.list_short.ensures c.list_short-2.ensures in
-    code_4 a.b.given l m a.pred0.now a.pred1.now a.b.checked some (sym short ∙ c.if-list_short-pred0.true)
+    let l = list_of a.l0.now in
+    let m = list_of a.l1.now in
+    let some = ap not c.if-not-l0-l1.false in
+    let short = ap₂ (λ (s t : Bool). s || t || ltb (length a.pred0.now) pred_len || ltb (length a.pred1.now) pred_len) c.is_short.ensures c.is_short-2.ensures in
+    code_4 a.b.given l m a.pred0.now a.pred1.now a.b.checked some (sym short ∙ c.if-is_short-pred0.true)
 
 pub returns-then-poc_exceeds : goal.returns-then-poc_exceeds
 returns-then-poc_exceeds c =
     let a = c.args in
-    let l = ref_pic_list a.list0 a.y0.now a.u0.now a.v0.now in
-    let m = ref_pic_list a.list1 a.y1.now a.u1.now a.v1.now in
-    let some = ap not c.if-not-list0-list1.false in
-    let short = ap₂ (λ (s t : Bool). s || t || ltb (length a.pred0.now) pred_len || ltb (length a.pred1.now) pred_len) c.list_short.ensures c.list_short-2.ensures in
+    let l = list_of a.l0.now in
+    let m = list_of a.l1.now in
+    let some = ap not c.if-not-l0-l1.false in
+    let short = ap₂ (λ (s t : Bool). s || t || ltb (length a.pred0.now) pred_len || ltb (length a.pred1.now) pred_len) c.is_short.ensures c.is_short-2.ensures in
     let poc = ap₂ ◌||◌ c.poc_exceeds.ensures c.poc_exceeds-2.ensures in
-    code_5 a.b.given l m a.pred0.now a.pred1.now a.b.checked some (sym short ∙ c.if-list_short-pred0.false) (sym poc ∙ c.if-poc_exceeds.true)
+    code_5 a.b.given l m a.pred0.now a.pred1.now a.b.checked some (sym short ∙ c.if-is_short-pred0.false) (sym poc ∙ c.if-poc_exceeds.true)
 
-pub returns-then-list_exceeds : goal.returns-then-list_exceeds
-returns-then-list_exceeds c =
+pub returns-then-exceeds : goal.returns-then-exceeds
+returns-then-exceeds c =
     let a = c.args in
-    let l = ref_pic_list a.list0 a.y0.now a.u0.now a.v0.now in
-    let m = ref_pic_list a.list1 a.y1.now a.u1.now a.v1.now in
-    let some = ap not c.if-not-list0-list1.false in
-    let short = ap₂ (λ (s t : Bool). s || t || ltb (length a.pred0.now) pred_len || ltb (length a.pred1.now) pred_len) c.list_short.ensures c.list_short-2.ensures in
+    let l = list_of a.l0.now in
+    let m = list_of a.l1.now in
+    let some = ap not c.if-not-l0-l1.false in
+    let short = ap₂ (λ (s t : Bool). s || t || ltb (length a.pred0.now) pred_len || ltb (length a.pred1.now) pred_len) c.is_short.ensures c.is_short-2.ensures in
     let poc = ap₂ ◌||◌ c.poc_exceeds.ensures c.poc_exceeds-2.ensures in
-    let big = ap₂ ◌||◌ c.list_exceeds.ensures c.list_exceeds-2.ensures in
-    code_6 a.b.given l m a.pred0.now a.pred1.now a.b.checked some (sym short ∙ c.if-list_short-pred0.false) (sym poc ∙ c.if-poc_exceeds.false) (sym big ∙ c.if-list_exceeds.true)
+    let big = ap₂ ◌||◌ c.exceeds.ensures c.exceeds-2.ensures in
+    code_6 a.b.given l m a.pred0.now a.pred1.now a.b.checked some (sym short ∙ c.if-is_short-pred0.false) (sym poc ∙ c.if-poc_exceeds.false) (sym big ∙ c.if-exceeds.true)
 
 pub returns : goal.returns
 returns c =
     let a = c.args in
-    let l = ref_pic_list a.list0 a.y0.now a.u0.now a.v0.now in
-    let m = ref_pic_list a.list1 a.y1.now a.u1.now a.v1.now in
-    let some = ap not c.if-not-list0-list1.false in
-    let short = ap₂ (λ (s t : Bool). s || t || ltb (length a.pred0.now) pred_len || ltb (length a.pred1.now) pred_len) c.list_short.ensures c.list_short-2.ensures in
+    let l = list_of a.l0.now in
+    let m = list_of a.l1.now in
+    let some = ap not c.if-not-l0-l1.false in
+    let short = ap₂ (λ (s t : Bool). s || t || ltb (length a.pred0.now) pred_len || ltb (length a.pred1.now) pred_len) c.is_short.ensures c.is_short-2.ensures in
     let poc = ap₂ ◌||◌ c.poc_exceeds.ensures c.poc_exceeds-2.ensures in
-    let big = ap₂ ◌||◌ c.list_exceeds.ensures c.list_exceeds-2.ensures in
-    code_0 a.b.given l m a.pred0.now a.pred1.now a.b.checked some (sym short ∙ c.if-list_short-pred0.false) (sym poc ∙ c.if-poc_exceeds.false) (sym big ∙ c.if-list_exceeds.false)
+    let big = ap₂ ◌||◌ c.exceeds.ensures c.exceeds-2.ensures in
+    code_0 a.b.given l m a.pred0.now a.pred1.now a.b.checked some (sym short ∙ c.if-is_short-pred0.false) (sym poc ∙ c.if-poc_exceeds.false) (sym big ∙ c.if-exceeds.false)

@@ -11,15 +11,15 @@ use Rattle.evc_mc.specs.Block.{luma, cb, cr}
 use Rattle.evc_mc.specs.declared.EvcPredicted.{EvcPredicted}
 use Rattle.evc_mc.proofs.Answers.{silent}
 use Rattle.evc_mc.proofs.Checks.{sides}
-use Rattle.evc_record.specs.Record.{planes}
+use Rattle.evc_record.specs.Record.{planes, planes_of}
 use Rattle.evc_record.proofs.Steps.{code_form, kept, code_motion, answer_block, good_block, one_plane, all_planes}
 use Rattle.evc_record.proofs.replay_record.Goals as goal
 
 pub returns-in_err-r : goal.returns-in_err-r
 returns-in_err-r c =
     let a = c.args in
-    let p = planes a.y0.now a.u0.now a.v0.now in
-    let q = planes a.y1.now a.u1.now a.v1.now in
+    let p = planes_of a.ref0 in
+    let q = planes_of a.ref1 in
     let has = is_present a.col_mv in
     let col = numbers_of a.col_mv in
     let s = a.s.now in
@@ -31,8 +31,8 @@ returns-in_err-r c =
 pub returns-in_err-m : goal.returns-in_err-m
 returns-in_err-m c =
     let a = c.args in
-    let p = planes a.y0.now a.u0.now a.v0.now in
-    let q = planes a.y1.now a.u1.now a.v1.now in
+    let p = planes_of a.ref0 in
+    let q = planes_of a.ref1 in
     let has = is_present a.col_mv in
     let col = numbers_of a.col_mv in
     let s = a.s.now in
@@ -44,8 +44,8 @@ returns-in_err-m c =
 pub returns-in_err-moved : goal.returns-in_err-moved
 returns-in_err-moved c =
     let a = c.args in
-    let p = planes a.y0.now a.u0.now a.v0.now in
-    let q = planes a.y1.now a.u1.now a.v1.now in
+    let p = planes_of a.ref0 in
+    let q = planes_of a.ref1 in
     let has = is_present a.col_mv in
     let col = numbers_of a.col_mv in
     let s = a.s.now in
@@ -57,8 +57,8 @@ returns-in_err-moved c =
 pub invariant_of-put_block : goal.invariant_of-put_block
 invariant_of-put_block c =
     let a = c.args in
-    let p = planes a.y0.now a.u0.now a.v0.now in
-    let q = planes a.y1.now a.u1.now a.v1.now in
+    let p = planes_of a.ref0 in
+    let q = planes_of a.ref1 in
     let has = is_present a.col_mv in
     let col = numbers_of a.col_mv in
     let s = a.s.now in
@@ -71,8 +71,8 @@ invariant_of-put_block c =
 pub returns : goal.returns
 returns c =
     let a = c.args in
-    let p = planes a.y0.now a.u0.now a.v0.now in
-    let q = planes a.y1.now a.u1.now a.v1.now in
+    let p = planes_of a.ref0 in
+    let q = planes_of a.ref1 in
     let has = is_present a.col_mv in
     let col = numbers_of a.col_mv in
     let s = a.s.now in

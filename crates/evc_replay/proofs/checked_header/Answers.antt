@@ -6,16 +6,16 @@ use native.Mathlib.Omega.{arith}
 use Rattle.std.proofs.lemmas.Result.{err_from_is_err_and}
 use Rattle.evc_def.proofs.Codes.{accepted}
 use Rattle.evc_map.specs.Maps.{is_present, numbers_of}
-use Rattle.evc_record.specs.Record.{planes}
+use Rattle.evc_record.specs.Record.{planes_of}
 use Rattle.evc_replay.proofs.Header.{tested, code_11, code_10, picture, code_4, code_0}
 use Rattle.evc_replay.proofs.checked_header.Goals as goal
 
 pub returns-then-trace-lt-HEADER_LEN-clause-code : goal.returns-then-trace-lt-HEADER_LEN-clause-code
 returns-then-trace-lt-HEADER_LEN-clause-code c =
     let a = c.args in
-    let p = planes a.y0.now a.u0.now a.v0.now in
-    let q = planes a.y1.now a.u1.now a.v1.now in
-    let t = planes a.y.now a.u.now a.v.now in
+    let p = planes_of a.ref0 in
+    let q = planes_of a.ref1 in
+    let t = planes_of a.target in
     let s = a.trace.now in
     code_11 s p q (is_present a.col_mv) (numbers_of a.col_mv) t c.if-trace-lt-HEADER_LEN.true
 
@@ -25,9 +25,9 @@ is_trace-requires c = search rules
 pub returns-then-not-is_trace-clause-code : goal.returns-then-not-is_trace-clause-code
 returns-then-not-is_trace-clause-code c =
     let a = c.args in
-    let p = planes a.y0.now a.u0.now a.v0.now in
-    let q = planes a.y1.now a.u1.now a.v1.now in
-    let t = planes a.y.now a.u.now a.v.now in
+    let p = planes_of a.ref0 in
+    let q = planes_of a.ref1 in
+    let t = planes_of a.target in
     let s = a.trace.now in
     code_10 s p q (is_present a.col_mv) (numbers_of a.col_mv) t c.if-trace-lt-HEADER_LEN.false (ap not (sym c.is_trace.ensures ∙ c.if-not-is_trace.true))
 
@@ -37,9 +37,9 @@ read_header-h-requires c = search rules
 pub returns-in_err-pic-clause-code : goal.returns-in_err-pic-clause-code
 returns-in_err-pic-clause-code c =
     let a = c.args in
-    let p = planes a.y0.now a.u0.now a.v0.now in
-    let q = planes a.y1.now a.u1.now a.v1.now in
-    let t = planes a.y.now a.u.now a.v.now in
+    let p = planes_of a.ref0 in
+    let q = planes_of a.ref1 in
+    let t = planes_of a.target in
     let s = a.trace.now in
     let has = is_present a.col_mv in
     let col = numbers_of a.col_mv in
@@ -49,12 +49,12 @@ returns-in_err-pic-clause-code c =
     let x = err_from_is_err_and c.from_residual.result c.from_residual.ensures.1 in
     rw (x.1, x.2) (picture s p q has col t l m _ eh _ c.in_err-pic.ensures.code)
 
-pub returns-then-planes_short-col_short-clause-code : goal.returns-then-planes_short-col_short-clause-code
-returns-then-planes_short-col_short-clause-code c =
+pub returns-then-are_short-col_short-clause-code : goal.returns-then-are_short-col_short-clause-code
+returns-then-are_short-col_short-clause-code c =
     let a = c.args in
-    let p = planes a.y0.now a.u0.now a.v0.now in
-    let q = planes a.y1.now a.u1.now a.v1.now in
-    let t = planes a.y.now a.u.now a.v.now in
+    let p = planes_of a.ref0 in
+    let q = planes_of a.ref1 in
+    let t = planes_of a.target in
     let s = a.trace.now in
     let has = is_present a.col_mv in
     let col = numbers_of a.col_mv in
@@ -63,15 +63,15 @@ returns-then-planes_short-col_short-clause-code c =
     let eh = sym c.read_header-h.ensures in
     let w = c.in_ok-pic.ensures.value in
     let g = (accepted 1 _ _ (omega arith) (sym c.in_ok-pic.ensures.code)).0 in
-    let test = tested c.read_header-h.result p q t has col _ _ _ _ (simp (w.0, w.1) at c.planes_short.ensures) (simp (w.0, w.1) at c.planes_short-2.ensures) (simp (w.0, w.1) at c.planes_short-3.ensures) (simp (w.0, w.1) at c.col_short.ensures) in
-    code_4 s p q has col t l m _ eh g (sym test ∙ c.if-planes_short-col_short.true)
+    let test = tested c.read_header-h.result p q t has col _ _ _ _ (simp (w.0, w.1) at c.are_short.ensures) (simp (w.0, w.1) at c.are_short-2.ensures) (simp (w.0, w.1) at c.are_short-3.ensures) (simp (w.0, w.1) at c.col_short.ensures) in
+    code_4 s p q has col t l m _ eh g (sym test ∙ c.if-are_short-col_short.true)
 
 pub returns-clause-code : goal.returns-clause-code
 returns-clause-code c =
     let a = c.args in
-    let p = planes a.y0.now a.u0.now a.v0.now in
-    let q = planes a.y1.now a.u1.now a.v1.now in
-    let t = planes a.y.now a.u.now a.v.now in
+    let p = planes_of a.ref0 in
+    let q = planes_of a.ref1 in
+    let t = planes_of a.target in
     let s = a.trace.now in
     let has = is_present a.col_mv in
     let col = numbers_of a.col_mv in
@@ -80,5 +80,5 @@ returns-clause-code c =
     let eh = sym c.read_header-h.ensures in
     let w = c.in_ok-pic.ensures.value in
     let g = (accepted 1 _ _ (omega arith) (sym c.in_ok-pic.ensures.code)).0 in
-    let test = tested c.read_header-h.result p q t has col _ _ _ _ (simp (w.0, w.1) at c.planes_short.ensures) (simp (w.0, w.1) at c.planes_short-2.ensures) (simp (w.0, w.1) at c.planes_short-3.ensures) (simp (w.0, w.1) at c.col_short.ensures) in
-    code_0 s p q has col t l m _ eh g (sym test ∙ c.if-planes_short-col_short.false)
+    let test = tested c.read_header-h.result p q t has col _ _ _ _ (simp (w.0, w.1) at c.are_short.ensures) (simp (w.0, w.1) at c.are_short-2.ensures) (simp (w.0, w.1) at c.are_short-3.ensures) (simp (w.0, w.1) at c.col_short.ensures) in
+    code_0 s p q has col t l m _ eh g (sym test ∙ c.if-are_short-col_short.false)

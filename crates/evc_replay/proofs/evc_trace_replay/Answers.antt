@@ -2,7 +2,7 @@
 use mathlib.Core.Bool.{false}
 use mathlib.Core.Path.{◌≡◌, sym, subst, ◌∙◌}
 use Rattle.evc_trace.specs.declared.TraceHeader.{TraceHeader}
-use Rattle.evc_record.specs.Record.{planes, picture_short}
+use Rattle.evc_record.specs.Record.{planes, planes_of, picture_short}
 use Rattle.evc_def.proofs.Refusals.{not_0}
 use Rattle.evc_map.specs.Maps.{is_present, numbers_of}
 use Rattle.evc_replay.proofs.Counts.{none_is}
@@ -13,8 +13,8 @@ use Rattle.evc_replay.proofs.evc_trace_replay.Goals as goal
 pub returns-in-Err : goal.returns-in-Err
 returns-in-Err c =
     let a = c.args in
-    let p = planes a.y0.now a.u0.now a.v0.now in
-    let q = planes a.y1.now a.u1.now a.v1.now in
+    let p = planes_of a.ref0 in
+    let q = planes_of a.ref1 in
     let t = planes a.y.now a.u.now a.v.now in
     let has = is_present a.col_mv in
     let col = numbers_of a.col_mv in
@@ -28,8 +28,8 @@ returns-in-Err c =
 pub replay_records-requires : goal.replay_records-requires
 replay_records-requires c =
     let a = c.args in
-    let p = planes a.y0.now a.u0.now a.v0.now in
-    let q = planes a.y1.now a.u1.now a.v1.now in
+    let p = planes_of a.ref0 in
+    let q = planes_of a.ref1 in
     let t = planes a.y.now a.u.now a.v.now in
     let has = is_present a.col_mv in
     let col = numbers_of a.col_mv in
@@ -39,8 +39,8 @@ replay_records-requires c =
 pub returns-in-Ok : goal.returns-in-Ok
 returns-in-Ok c =
     let a = c.args in
-    let p = planes a.y0.now a.u0.now a.v0.now in
-    let q = planes a.y1.now a.u1.now a.v1.now in
+    let p = planes_of a.ref0 in
+    let q = planes_of a.ref1 in
     let t = planes a.y.now a.u.now a.v.now in
     let has = is_present a.col_mv in
     let col = numbers_of a.col_mv in

@@ -10,7 +10,7 @@ use Rattle.evc_counts.specs.Counts.{◌plus◌}
 use Rattle.evc_counts.specs.Inner.{AtMost}
 use Rattle.evc_counts.specs.declared.MovedCounts.{MovedCounts}
 use Rattle.evc_counts.proofs.Counts.{nothing_plus, lists_most, most_less, at_most}
-use Rattle.evc_record.specs.Record.{planes, source}
+use Rattle.evc_record.specs.Record.{planes, planes_of, source}
 use Rattle.evc_record.proofs.Places.{still_long}
 use Rattle.evc_replay.proofs.Counts.{counts_from, counted_on, counted_stop, counted_end, none_is}
 use Rattle.evc_replay.proofs.Records.{with_target, complete, went_on, stopped, ended}
@@ -19,7 +19,7 @@ use Rattle.evc_replay.proofs.replay_records.Goals as goal
 pub loop-at-init : goal.loop-at-init
 loop-at-init c =
     let a = c.args in
-    let from = source a.h (planes a.y0.now a.u0.now a.v0.now) (planes a.y1.now a.u1.now a.v1.now) (is_present a.col_mv) (numbers_of a.col_mv) in
+    let from = source a.h (planes_of a.ref0) (planes_of a.ref1) (is_present a.col_mv) (numbers_of a.col_mv) in
     let p = c.requires.1 in
     let n = none_is c.default-counts.result c.default-counts.ensures in
     (omega arith, omega arith, refl, refl, refl, refl, refl, refl, at_most 0 _ n, ap (λ (d : MovedCounts). d plus counts_from from a.trace.now 13) n ∙ nothing_plus _)
@@ -33,7 +33,7 @@ replay_record-requires c =
 pub returns-in-Err : goal.returns-in-Err
 returns-in-Err c =
     let a = c.args in
-    let from = source a.h (planes a.y0.now a.u0.now a.v0.now) (planes a.y1.now a.u1.now a.v1.now) (is_present a.col_mv) (numbers_of a.col_mv) in
+    let from = source a.h (planes_of a.ref0) (planes_of a.ref1) (is_present a.col_mv) (numbers_of a.col_mv) in
     let target = planes c.loop-at.y c.loop-at.u c.loop-at.v in
     let at = c.loop-at.at in
     let n = c.answer.ensures in
@@ -48,7 +48,7 @@ returns-in-Err c =
 pub overflow_add-at : goal.overflow_add-at
 overflow_add-at c =
     let a = c.args in
-    let from = source a.h (planes a.y0.now a.u0.now a.v0.now) (planes a.y1.now a.u1.now a.v1.now) (is_present a.col_mv) (numbers_of a.col_mv) in
+    let from = source a.h (planes_of a.ref0) (planes_of a.ref1) (is_present a.col_mv) (numbers_of a.col_mv) in
     let room = complete from a.trace.now c.loop-at.at c.loop-at.index (planes c.loop-at.y c.loop-at.u c.loop-at.v) _ c.record_at-record.ensures (sym (ap (λ (p : EvcPredicted). p.code) c.in-Ok.ensures.result_value)) in
     omega arith
 
@@ -56,7 +56,7 @@ pub loop-at-preserved : goal.loop-at-preserved
 loop-at-preserved c =
     let i = c.loop-at.invariant in
     let a = c.args in
-    let from = source a.h (planes a.y0.now a.u0.now a.v0.now) (planes a.y1.now a.u1.now a.v1.now) (is_present a.col_mv) (numbers_of a.col_mv) in
+    let from = source a.h (planes_of a.ref0) (planes_of a.ref1) (is_present a.col_mv) (numbers_of a.col_mv) in
     let target = planes c.loop-at.y c.loop-at.u c.loop-at.v in
     let at = c.loop-at.at in
     let z = sym (ap (λ (p : EvcPredicted). p.code) c.in-Ok.ensures.result_value) in
@@ -77,7 +77,7 @@ loop-at-preserved c =
 pub returns : goal.returns
 returns c =
     let a = c.args in
-    let from = source a.h (planes a.y0.now a.u0.now a.v0.now) (planes a.y1.now a.u1.now a.v1.now) (is_present a.col_mv) (numbers_of a.col_mv) in
+    let from = source a.h (planes_of a.ref0) (planes_of a.ref1) (is_present a.col_mv) (numbers_of a.col_mv) in
     let n = c.answer-2.ensures in
     record {
       v_after = with_target _ _ _ n.0 ∙ ended from a.trace.now c.loop-at.at c.loop-at.index (planes c.loop-at.y c.loop-at.u c.loop-at.v) c.loop-at-test.false ∙ c.loop-at.invariant.7;

@@ -1,9 +1,10 @@
--- `evc_mc::list_short` meets its contract. Assumes nothing.
+-- `evc_mc::RefPicList::is_short` meets its contract. Assumes nothing.
 use mathlib.Core.Bool.{Bool, ◌&&◌}
 use mathlib.Core.Path.{◌≡◌}
 use Rattle.evc_def.specs.declared.EvcBlock.{EvcBlock}
-use Rattle.evc_mc.specs.Block.{RefPicList, ref_pic_list, planes_short, list_short}
-use Rattle.evc_mc.proofs.list_short.Goals as goal
+use Rattle.evc_mc.specs.Block.{RefPicList, planes_short, list_short}
+use Rattle.evc_mc.specs.Lent.{list_of}
+use Rattle.evc_mc.proofs.RefPicList.is_short.Goals as goal
 
 if_used : (b : EvcBlock) (l : RefPicList) (short : Bool) → short ≡ planes_short b.pic_w b.pic_h l.y l.u l.v → (l.list.used && short) ≡ list_short b l
 unfolding list_short
@@ -12,4 +13,4 @@ if_used b l short e = rw e
 pub returns : goal.returns
 returns c =
     let a = c.args in
-    if_used a.b.given (ref_pic_list a.list a.y.now a.u.now a.v.now) _ (simp (c.picture.ensures.0, c.picture.ensures.1) at c.planes_short.ensures)
+    if_used a.b.given (list_of a.self.now) _ (simp (c.picture.ensures.0, c.picture.ensures.1) at c.are_short.ensures)

@@ -1,15 +1,15 @@
--- `evc_mc::list_exceeds` meets its contract. Assumes nothing.
+-- `evc_mc::RefPicList::exceeds` meets its contract. Assumes nothing.
 use mathlib.Core.Bool.{Bool, true, false, ◌||◌}
 use mathlib.Core.Path.{◌≡◌, refl}
-use borrow.Author.Tests.{not-true, not-false}
 use Rattle.evc_def.specs.declared.EvcBlock.{EvcBlock}
 use Rattle.evc_def.specs.declared.QpelPlace.{QpelPlace}
 use Rattle.evc_plane.specs.declared.PlaneType.TheVariants.{Y, UV}
 use Rattle.evc_clip.specs.Clip.{clipped_place}
 use Rattle.evc_interp.specs.Prediction.{window_exceeds}
-use Rattle.evc_mc.specs.Block.{RefPicList, ref_pic_list, luma, cb, cr, width_of, height_of, component_exceeds, list_exceeds}
+use Rattle.evc_mc.specs.Block.{RefPicList, luma, cb, cr, width_of, height_of, component_exceeds, list_exceeds}
+use Rattle.evc_mc.specs.Lent.{list_of}
 use Rattle.evc_mc.proofs.Checks.{sides, plane_side, list_long}
-use Rattle.evc_mc.proofs.list_exceeds.Goals as goal
+use Rattle.evc_mc.proofs.RefPicList.exceeds.Goals as goal
 
 module _ (b : EvcBlock) (l : RefPicList) where
   unused : l.list.used ≡ false → false ≡ list_exceeds b l
@@ -27,24 +27,24 @@ module _ (b : EvcBlock) (l : RefPicList) where
       together true q r = refl
       together false q r = refl
 
-pub returns-then-not-list : goal.returns-then-not-list
-returns-then-not-list c =
+pub returns-then-not-self : goal.returns-then-not-self
+returns-then-not-self c =
     let a = c.args in
-    unused a.b.given (ref_pic_list a.list a.y.now a.u.now a.v.now) (not-true _ c.if-not-list.true)
+    unused a.b.given (list_of a.self.now) c.if-not-self.true
 
 pub window_exceeds-requires : goal.window_exceeds-requires
 window_exceeds-requires c =
     let a = c.args in
-    let z = sides a.b.given a.b.checked in record { sides = (z.w_side, z.h_side); long_enough = rw (c.picture-pic.ensures.0, c.picture-pic.ensures.1) (list_long a.b.given (ref_pic_list a.list a.y.now a.u.now a.v.now) (not-false _ c.if-not-list.false) c.requires.long_enough luma) }
+    let z = sides a.b.given a.b.checked in record { sides = (z.w_side, z.h_side); long_enough = rw (c.picture-pic.ensures.0, c.picture-pic.ensures.1) (list_long a.b.given (list_of a.self.now) c.if-not-self.false c.requires.long_enough luma) }
 
 pub windows_exceed-requires : goal.windows_exceed-requires
 windows_exceed-requires c =
     let a = c.args in
     let z = sides a.b.given a.b.checked in
-    let l = list_long a.b.given (ref_pic_list a.list a.y.now a.u.now a.v.now) (not-false _ c.if-not-list.false) c.requires.long_enough in record { sides = (plane_side UV a.b.given.w z.w_side, plane_side UV a.b.given.h z.h_side); long_enough = rw (c.picture-pic.ensures.0, c.picture-pic.ensures.1) (l cb, l cr) }
+    let l = list_long a.b.given (list_of a.self.now) c.if-not-self.false c.requires.long_enough in record { sides = (plane_side UV a.b.given.w z.w_side, plane_side UV a.b.given.h z.h_side); long_enough = rw (c.picture-pic.ensures.0, c.picture-pic.ensures.1) (l cb, l cr) }
 
 pub returns : goal.returns
 returns c =
     let a = c.args in
-    exceeds_is a.b.given (ref_pic_list a.list a.y.now a.u.now a.v.now) _ _ _ (not-false _ c.if-not-list.false) c.requires.gmv_value
+    exceeds_is a.b.given (list_of a.self.now) _ _ _ c.if-not-self.false c.requires.gmv_value
     (simp (c.picture-pic.ensures.0, c.picture-pic.ensures.1) at c.window_exceeds.ensures) (simp (c.picture-pic.ensures.0, c.picture-pic.ensures.1) at c.windows_exceed.ensures)

@@ -1,11 +1,10 @@
--- `evc_mc::predict_list` meets its contract: nothing for a list that is not in use, else its three planes. Assumes nothing.
+-- `evc_mc::RefPicList::predict` meets its contract: nothing for a list that is not in use, else its three planes. Assumes nothing.
 use Prim.Native.Nat.{ℕ, ◌*◌, ◌≤◌}
 use mathlib.Core.Bool.{Bool, true, false, cond}
 use mathlib.Core.List.{List}
 use mathlib.Core.Path.{◌≡◌, refl, sym, ap, ◌∙◌}
 use native.Mathlib.Omega.{arith}
 use lib.ListN.{length}
-use borrow.Author.Tests.{not-true, not-false}
 use Rattle.evc_int.specs.Lists.{with_block}
 use Rattle.evc_def.specs.declared.EvcBlock.{EvcBlock}
 use Rattle.evc_def.specs.declared.QpelPlace.{QpelPlace}
@@ -16,11 +15,12 @@ use Rattle.evc_interp.specs.Prediction.{predicted}
 use Rattle.evc_interp.specs.Inner.{position_of, Readable, sample_from}
 use Rattle.evc_interp.specs.declared.Position.{Position}
 use Rattle.evc_interp.proofs.Windows.{accepts, readable, predicts}
-use Rattle.evc_mc.specs.Block.{RefPicList, ref_pic_list, Component, luma, cb, cr, type_of, plane_of, offset_of, width_of, height_of, with_component, with_samples, list_sample, pred_len}
+use Rattle.evc_mc.specs.Block.{RefPicList, Component, luma, cb, cr, type_of, plane_of, offset_of, width_of, height_of, with_component, with_samples, list_sample, pred_len}
 use Rattle.evc_mc.specs.Inner.{Examined, with_list}
+use Rattle.evc_mc.specs.Lent.{list_of}
 use Rattle.evc_mc.proofs.Checks.{sides, plane_accepted}
 use Rattle.evc_mc.proofs.Samples.{component_room, component_end}
-use Rattle.evc_mc.proofs.predict_list.Goals as goal
+use Rattle.evc_mc.proofs.RefPicList.predict.Goals as goal
 
 module _ (b : EvcBlock) (l : RefPicList) where
   unused : (second : Bool) (p0 p1 : List ℕ) → l.list.used ≡ false → (p0 ≡ cond second p0 (with_list b l p0)) × (p1 ≡ cond second (with_list b l p1) p1)
@@ -74,14 +74,14 @@ module _ (b : EvcBlock) (l : RefPicList) where
       done true o q p0 p1 a0 a1 b0 b1 c0 c1 u eo eq x0 x1 y0 y1 z0 z1 = (z0 ∙ y0 ∙ x0, three o q p1 a1 b1 c1 u eo eq x1 y1 z1)
       done false o q p0 p1 a0 a1 b0 b1 c0 c1 u eo eq x0 x1 y0 y1 z0 z1 = (three o q p0 a0 b0 c0 u eo eq x0 y0 z0, z1 ∙ y1 ∙ x1)
 
-pub returns-then-not-list : goal.returns-then-not-list
-returns-then-not-list c =
-    let a = c.args in let parts = unused a.b.given (ref_pic_list a.list a.y.now a.u.now a.v.now) a.second a.pred0.now a.pred1.now (not-true _ c.if-not-list.true) in record { pred0_after = parts.0; pred1_after = parts.1 }
+pub returns-then-not-self : goal.returns-then-not-self
+returns-then-not-self c =
+    let a = c.args in let parts = unused a.b.given (list_of a.self.now) a.second a.pred0.now a.pred1.now c.if-not-self.true in record { pred0_after = parts.0; pred1_after = parts.1 }
 
 pub predict_component-requires : goal.predict_component-requires
 predict_component-requires c =
     let a = c.args in
-    let r = component_room a.b.given (sides a.b.given a.b.checked) luma in record { readable = reads a.b.given (ref_pic_list a.list a.y.now a.u.now a.v.now) a.gmv luma _ a.pred0.now a.b.checked (c.requires.list_examined (not-false _ c.if-not-list.false) luma) c.requires.pred_len_in_bounds.0 (simp (c.picture-pic.ensures.0, c.picture-pic.ensures.1) at c.position_of-luma.ensures); w_in_bounds = (omega (arith, c.requires.pred_len_in_bounds.0), omega (arith, c.requires.pred_len_in_bounds.1)) }
+    let r = component_room a.b.given (sides a.b.given a.b.checked) luma in record { readable = reads a.b.given (list_of a.self.now) a.gmv luma _ a.pred0.now a.b.checked (c.requires.list_examined c.if-not-self.false luma) c.requires.pred_len_in_bounds.0 (simp (c.picture-pic.ensures.0, c.picture-pic.ensures.1) at c.position_of-luma.ensures); w_in_bounds = (omega (arith, c.requires.pred_len_in_bounds.0), omega (arith, c.requires.pred_len_in_bounds.1)) }
 
 pub predict_component-requires-2 : goal.predict_component-requires-2
 predict_component-requires-2 c =
@@ -89,7 +89,7 @@ predict_component-requires-2 c =
     let k = c.predict_component.auto in
     let o = c.cu_dim_offset-offset_u.ensures in
     let v = c.cu_dim_offset-offset_v.ensures in
-    let r = component_room a.b.given (sides a.b.given a.b.checked) cb in record { readable = reads a.b.given (ref_pic_list a.list a.y.now a.u.now a.v.now) a.gmv cb _ a.pred0.now a.b.checked (c.requires.list_examined (not-false _ c.if-not-list.false) cb) c.requires.pred_len_in_bounds.0 (simp (c.picture-pic.ensures.0, c.picture-pic.ensures.1) at c.position_of-chroma.ensures); w_in_bounds = (omega (arith, k.pred0, c.requires.pred_len_in_bounds.0), omega (arith, k.pred1, c.requires.pred_len_in_bounds.1)) }
+    let r = component_room a.b.given (sides a.b.given a.b.checked) cb in record { readable = reads a.b.given (list_of a.self.now) a.gmv cb _ a.pred0.now a.b.checked (c.requires.list_examined c.if-not-self.false cb) c.requires.pred_len_in_bounds.0 (simp (c.picture-pic.ensures.0, c.picture-pic.ensures.1) at c.position_of-chroma.ensures); w_in_bounds = (omega (arith, k.pred0, c.requires.pred_len_in_bounds.0), omega (arith, k.pred1, c.requires.pred_len_in_bounds.1)) }
 
 pub predict_component-requires-3 : goal.predict_component-requires-3
 predict_component-requires-3 c =
@@ -97,10 +97,10 @@ predict_component-requires-3 c =
     let k = c.predict_component.auto in
     let m = c.predict_component-2.auto in
     let o = c.cu_dim_offset-offset_v.ensures in
-    let r = component_room a.b.given (sides a.b.given a.b.checked) cr in record { readable = reads a.b.given (ref_pic_list a.list a.y.now a.u.now a.v.now) a.gmv cr _ a.pred0.now a.b.checked (c.requires.list_examined (not-false _ c.if-not-list.false) cr) c.requires.pred_len_in_bounds.0 (simp (c.picture-pic.ensures.0, c.picture-pic.ensures.1) at c.position_of-chroma.ensures); w_in_bounds = (omega (arith, k.pred0, m.pred0, c.requires.pred_len_in_bounds.0), omega (arith, k.pred1, m.pred1, c.requires.pred_len_in_bounds.1)) }
+    let r = component_room a.b.given (sides a.b.given a.b.checked) cr in record { readable = reads a.b.given (list_of a.self.now) a.gmv cr _ a.pred0.now a.b.checked (c.requires.list_examined c.if-not-self.false cr) c.requires.pred_len_in_bounds.0 (simp (c.picture-pic.ensures.0, c.picture-pic.ensures.1) at c.position_of-chroma.ensures); w_in_bounds = (omega (arith, k.pred0, m.pred0, c.requires.pred_len_in_bounds.0), omega (arith, k.pred1, m.pred1, c.requires.pred_len_in_bounds.1)) }
 
 pub returns : goal.returns
 returns c =
-    let a = c.args in let parts = done a.b.given (ref_pic_list a.list a.y.now a.u.now a.v.now) a.gmv c.requires.gmv_value _ _ (simp (c.picture-pic.ensures.0, c.picture-pic.ensures.1) at c.position_of-luma.ensures) (simp (c.picture-pic.ensures.0, c.picture-pic.ensures.1) at c.position_of-chroma.ensures) a.second _ _ a.pred0.now a.pred1.now _ _ _ _ _ _ (not-false _ c.if-not-list.false)
+    let a = c.args in let parts = done a.b.given (list_of a.self.now) a.gmv c.requires.gmv_value _ _ (simp (c.picture-pic.ensures.0, c.picture-pic.ensures.1) at c.position_of-luma.ensures) (simp (c.picture-pic.ensures.0, c.picture-pic.ensures.1) at c.position_of-chroma.ensures) a.second _ _ a.pred0.now a.pred1.now _ _ _ _ _ _ c.if-not-self.false
     c.cu_dim_offset-offset_u.ensures c.cu_dim_offset-offset_v.ensures
     c.predict_component.ensures.pred0_after c.predict_component.ensures.pred1_after c.predict_component-2.ensures.pred0_after c.predict_component-2.ensures.pred1_after c.predict_component-3.ensures.pred0_after c.predict_component-3.ensures.pred1_after in record { pred0_after = parts.0; pred1_after = parts.1 }
