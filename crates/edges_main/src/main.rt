@@ -4,7 +4,7 @@
 
 use evc_def::{EvcBlock, EvcMv, Picture, Refusal};
 use evc_direct::Pocs;
-use evc_mc::{EvcList, PRED_LEN};
+use evc_mc::{EvcList, PRED_LEN, RefPicList};
 use evc_motion::EvcCandidates;
 use evc_plane::PlaneType;
 use std::alloc::{AllocError, Global};
@@ -77,11 +77,20 @@ fn list_of(poc: u32) -> EvcList {
 fn block(b: EvcBlock, poc: u32, luma: &[u16], chroma: &[u16]) -> u32 {
     let mut pred0 = [0; PRED_LEN];
     let mut pred1 = [0; PRED_LEN];
-    let list0 = list_of(0);
-    let list1 = list_of(poc);
-    number(evc_mc::evc_mc2(
-        b, list0, luma, chroma, chroma, list1, luma, chroma, chroma, &mut pred0, &mut pred1,
-    ))
+    let planes = evc_mc::Planes {
+        y: luma,
+        u: chroma,
+        v: chroma,
+    };
+    let l0 = RefPicList {
+        list: list_of(0),
+        planes,
+    };
+    let l1 = RefPicList {
+        list: list_of(poc),
+        planes,
+    };
+    number(evc_mc::evc_mc2(b, &l0, &l1, &mut pred0, &mut pred1))
 }
 
 // ---- what is printed

@@ -26,7 +26,7 @@ use evc_camera::EvcCamera;
 use evc_clip::EvcClipped;
 use evc_def::{EvcBlock, EvcMv};
 use evc_direct::{EvcDirect, Pocs};
-use evc_mc::{EvcList, EvcPredicted};
+use evc_mc::{EvcList, EvcPredicted, Planes, RefPicList};
 use evc_motion::EvcCandidates;
 use evc_plane::PlaneType;
 use evc_replay::EvcReplay;
@@ -177,7 +177,23 @@ pub extern "C" fn evc_mc2(
         let l1 = ref_pic_list list1 y1.now u1.now v1.now in
         pred1.new ≡ mc2_second block l0 l1 pred0.old pred1.old }
 {
-    EvcPredicted::from(evc_mc::evc_mc2(block, list0, y0, u0, v0, list1, y1, u1, v1, pred0, pred1))
+    let l0 = RefPicList {
+        list: list0,
+        planes: Planes {
+            y: y0,
+            u: u0,
+            v: v0,
+        },
+    };
+    let l1 = RefPicList {
+        list: list1,
+        planes: Planes {
+            y: y1,
+            u: u1,
+            v: v1,
+        },
+    };
+    EvcPredicted::from(evc_mc::evc_mc2(block, &l0, &l1, pred0, pred1))
 }
 
 // The header of a trace.
@@ -237,8 +253,18 @@ pub extern "C" fn evc_trace_replay(
         let target = planes y.old u.old v.old in
         counts_in result ≡ replayed_counts trace.now ref0 ref1 has_col col_mv.now target }
 {
+    let ref0 = Planes {
+        y: y0,
+        u: u0,
+        v: v0,
+    };
+    let ref1 = Planes {
+        y: y1,
+        u: u1,
+        v: v1,
+    };
     let col_mv = collocated(has_col, col_mv);
-    evc_replay::evc_trace_replay(trace, y0, u0, v0, y1, u1, v1, col_mv, y, u, v)
+    evc_replay::evc_trace_replay(trace, ref0, ref1, col_mv, y, u, v)
 }
 
 // The movement of a picture's camera, by its motion map and unit words.

@@ -6,7 +6,7 @@
 
 use evc_clip::{EvcClipped, EvcMoved};
 use evc_def::{EvcBlock, EvcMv};
-use evc_mc::{EvcList, PRED_LEN};
+use evc_mc::{EvcList, PRED_LEN, Planes, RefPicList};
 use evc_plane::PlaneType;
 use std::alloc::{AllocError, Global};
 use std::{fmt, io};
@@ -39,11 +39,20 @@ fn list_of(used: bool, mv: EvcMv) -> EvcList {
 fn block(b: EvcBlock, mv: EvcMv, at: usize, luma: &[u16], chroma: &[u16]) -> u16 {
     let mut pred0 = [OLD; PRED_LEN];
     let mut pred1 = [OLD; PRED_LEN];
-    let list0 = list_of(true, mv);
-    let list1 = list_of(false, mv);
-    let _ = evc_mc::evc_mc2(
-        b, list0, luma, chroma, chroma, list1, luma, chroma, chroma, &mut pred0, &mut pred1,
-    );
+    let planes = Planes {
+        y: luma,
+        u: chroma,
+        v: chroma,
+    };
+    let l0 = RefPicList {
+        list: list_of(true, mv),
+        planes,
+    };
+    let l1 = RefPicList {
+        list: list_of(false, mv),
+        planes,
+    };
+    let _ = evc_mc::evc_mc2(b, &l0, &l1, &mut pred0, &mut pred1);
     get(&pred0, at)
 }
 

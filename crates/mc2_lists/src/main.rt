@@ -8,7 +8,7 @@ ghost use Rattle.mc2_lists.specs.declared.TheConstants.{MAX_BLOCK_LEN};
 use evc_clip::EvcMoved;
 use evc_def::EvcBlock;
 use evc_lists::{MAX_RECORDS, Pictures, Planes, Record, number, number32};
-use evc_mc::{EvcList, EvcPredicted};
+use evc_mc::{EvcList, EvcPredicted, RefPicList};
 use std::alloc::{AllocError, Global};
 use std::io::{Read, Write};
 use std::{fmt, io};
@@ -62,6 +62,17 @@ fn list_of(r: &[u8; 32], used: bool, k: usize) -> EvcList
         used,
         mv: evc_lists::vector(r, k),
         poc: number32(r, k + 2),
+    }
+}
+
+fn ref_pic_list(list: EvcList, planes: &Planes) -> RefPicList<'_> {
+    RefPicList {
+        list,
+        planes: evc_mc::Planes {
+            y: &planes.y,
+            u: &planes.u,
+            v: &planes.v,
+        },
     }
 }
 
@@ -139,11 +150,9 @@ impl Call {
         pred0: &mut [u16],
         pred1: &mut [u16],
     ) -> Predicted {
-        let got = evc_mc::evc_mc2(
-            block, self.list0, &ref0.y, &ref0.u, &ref0.v, self.list1, &ref1.y, &ref1.u, &ref1.v,
-            pred0, pred1,
-        );
-        Predicted(got.into())
+        let l0 = ref_pic_list(self.list0, ref0);
+        let l1 = ref_pic_list(self.list1, ref1);
+        Predicted(evc_mc::evc_mc2(block, &l0, &l1, pred0, pred1).into())
     }
 
     fn answer(

@@ -130,6 +130,14 @@ impl Record for Call {
 
 // ---- a call
 
+fn lent(planes: &Planes) -> evc_mc::Planes<'_> {
+    evc_mc::Planes {
+        y: &planes.y,
+        u: &planes.u,
+        v: &planes.v,
+    }
+}
+
 impl Call {
     fn map(&self, alloc: Global) -> Result<Option<Vec<i16>>, AllocError> {
         self.map.map(|map| map.numbers(alloc)).transpose()
@@ -144,12 +152,8 @@ impl Call {
     ) -> EvcReplay {
         evc_replay::evc_trace_replay(
             &self.trace,
-            &ref0.y,
-            &ref0.u,
-            &ref0.v,
-            &ref1.y,
-            &ref1.u,
-            &ref1.v,
+            lent(ref0),
+            lent(ref1),
             map,
             &mut target.y,
             &mut target.u,
