@@ -2,7 +2,7 @@
 //! rust/README.md has the records.
 #![tactic(auto)]
 
-ghost use Rattle.std.specs.Prelude.{◌≡◌, ◌==◌, ◌+◌, ◌*◌, ◌<◌, ◌≤◌, [], ◌∷◌, ◌++◌, min, get_or, set, take, length, map, vec_len, Some, IfOk, IfSome, OnOk, IsTrue};
+ghost use Rattle.std.specs.Prelude.{◌≡◌, ◌==◌, ◌+◌, ◌*◌, ◌<◌, ◌≤◌, ℕ, List, [], ◌∷◌, ◌++◌, min, get_or, set, take, length, map, vec_len, Some, IfOk, IfSome, OnOk, IsTrue};
 ghost use Rattle.std.specs.Io.KnownBytes.{Appends, Consumes};
 ghost use Rattle.evc_lists.specs.Records.{number, number32};
 ghost use Rattle.evc_lists.specs.Units.{word_of};
@@ -22,9 +22,10 @@ use std::{fmt, io};
 // A proved loop has to end, and nothing says that the input does: more records than any list has.
 pub const MAX_RECORDS: usize = 65536;
 
-// What stands in a list reads itself; None where the input has no more.
+// What stands in a list reads itself, from the bytes that come next; None where the input has no more.
 pub trait Record: Drop {
-    fn read<R: Read>(alloc: Global, input: &mut R) -> io::Result<Option<Self>>;
+    fn read<R: Read>(alloc: Global, input: &mut R) -> io::Result<Option<Self>>
+        ensures { IfOk result (λ read. IfSome read (λ _. (bytes : List ℕ) × Consumes (R.remaining input.old) (R.remaining input.new) bytes)) };
 }
 
 // Runs the next records, `most` of them or as many as there are. A record's step may read what follows it: how far the input has got
