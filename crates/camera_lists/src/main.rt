@@ -2,6 +2,7 @@
 #![tactic(auto)]
 
 ghost use Rattle.std.specs.Prelude.{◌*◌, ◌≤◌, vec_len, IfOk, IfSome};
+ghost use Rattle.std.specs.Io.KnownBytes.{Consumes};
 ghost use Rattle.camera_lists.specs.declared.TheConstants.{MAX_WORDS};
 
 use evc_camera::EvcCamera;
@@ -33,7 +34,8 @@ struct Bits(f64);
 // ---- a record
 
 fn read_states<R: Read>(alloc: Global, input: &mut R, asked: u16) -> io::Result<Option<Vec<u8>>>
-    ensures { IfOk result (λ read. IfSome read (λ states. vec_len states ≤ MAX_WORDS)) }
+    ensures length { IfOk result (λ read. IfSome read (λ states. vec_len states ≤ MAX_WORDS)) }
+    ensures taken { IfOk result (λ read. IfSome read (λ states. Consumes (R.remaining input.old) (R.remaining input.new) states.items)) }
 {
     let n = evc_lists::lent(asked, MAX_WORDS);
     evc_lists::read_vec(alloc, input, n)

@@ -1,2 +1,3 @@
 pub mod Reduced
 pub mod Rows
+pub mod Scattered

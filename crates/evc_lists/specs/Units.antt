@@ -1,5 +1,5 @@
--- Unit words by state, and samples below a limit.
-use Rattle.std.specs.Prelude.{List, [], ◌∷◌, ℕ, ◌%◌, ◌==◌, cond, get_or}
+-- Unit words by state.
+use Rattle.std.specs.Prelude.{List, [], ◌∷◌, ℕ, ◌%◌, get_or}
 
 -- bit 0 coded, bit 1 intra, bit 2 every bit of the word that no flag looks at
 abbrev pub words : List ℕ
@@ -7,7 +7,3 @@ words = 0 ∷ 0x80000000 ∷ 0x00008000 ∷ 0x80008000 ∷ 0x7fff7fff ∷ 0xffff
 
 abbrev pub word_of : ℕ → ℕ
 word_of state = get_or words (state % 8) 0
-
--- below the limit, if there is one
-abbrev pub below : ℕ → ℕ → ℕ
-below limit sample = cond (limit == 0) sample (sample % limit)

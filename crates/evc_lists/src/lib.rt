@@ -2,9 +2,12 @@
 //! rust/README.md has the records.
 #![tactic(auto)]
 
-ghost use Rattle.std.specs.Prelude.{◌≡◌, ◌+◌, ◌*◌, ◌<◌, ◌≤◌, [], ◌∷◌, ◌++◌, min, get_or, length, map, vec_len, Some, IfOk, IfSome, OnOk, IsTrue};
+ghost use Rattle.std.specs.Prelude.{◌≡◌, ◌==◌, ◌+◌, ◌*◌, ◌<◌, ◌≤◌, ℕ, List, [], ◌∷◌, ◌++◌, min, get_or, set, take, length, map, vec_len, Some, IfOk, IfSome, OnOk, IsTrue};
 ghost use Rattle.std.specs.Io.KnownBytes.{Appends, Consumes};
-ghost use Rattle.evc_lists.specs.Units.{word_of, below};
+ghost use Rattle.evc_lists.specs.Records.{number, number32};
+ghost use Rattle.evc_lists.specs.Units.{word_of};
+ghost use Rattle.evc_lists.specs.Arbitrary.{following, scattered, below};
+ghost use Rattle.evc_lists.specs.Planes.{pictures_of, padded_plane, plane_of};
 ghost use Rattle.evc_lists.specs.Printed.{hash, others, spaced, row_line, rows_text};
 
 use evc_def::{EvcBlock, EvcMv};
@@ -19,12 +22,14 @@ use std::{fmt, io};
 // A proved loop has to end, and nothing says that the input does: more records than any list has.
 pub const MAX_RECORDS: usize = 65536;
 
-// What stands in a list reads itself; None where the input has no more.
+// What stands in a list reads itself, from the bytes that come next; None where the input has no more.
 pub trait Record: Drop {
-    fn read<R: Read>(alloc: Global, input: &mut R) -> io::Result<Option<Self>>;
+    fn read<R: Read>(alloc: Global, input: &mut R) -> io::Result<Option<Self>>
+        ensures { IfOk result (λ read. IfSome read (λ _. (bytes : List ℕ) × Consumes (R.remaining input.old) (R.remaining input.new) bytes)) };
 }
 
-// Runs the next records, `most` of them or as many as there are. A record's step may read what follows it.
+// Runs the next records, `most` of them or as many as there are. A record's step may read what follows it: how far the input has got
+// is up to the steps, of which the bound says only that they may be called.
 pub fn for_each_record<R: Read, T: Record, F: FnMut(&mut R, T) -> io::Result<()>>(
     alloc: Global,
     input: &mut R,
@@ -32,6 +37,7 @@ pub fn for_each_record<R: Read, T: Record, F: FnMut(&mut R, T) -> io::Result<()>
     mut run: F,
 ) -> io::Result<()>
     requires { F.IsAlwaysCallable run }
+    ensures { most ≡ 0 → (input.new ≡ input.old) × (result ≡ Ok tt) }
 {
     for _ in 0..most {
         let Some(record) = T::read(alloc, input)? else {
@@ -74,6 +80,7 @@ pub fn read_vec<R: Read>(alloc: Global, input: &mut R, n: usize) -> io::Result<O
 
 pub fn number(r: &[u8], k: usize) -> u16
     requires { 2 * k + 2 ≤ length r.now }
+    ensures { result ≡ number r.now k }
 {
     evc_bytes::u16_at(r, 2 * k)
 }
@@ -81,6 +88,7 @@ pub fn number(r: &[u8], k: usize) -> u16
 // The numbers from 65,280 on stand for those just below 2^32, so that two bytes reach both ends of a u32.
 pub fn number32(r: &[u8], k: usize) -> u32
     requires { 2 * k + 2 ≤ length r.now }
+    ensures { result ≡ number32 r.now k }
 {
     let n = u32::from(number(r, k));
     if n < 0xff00 { n } else { n + 0xffff0000 }
@@ -111,6 +119,7 @@ pub fn vector(r: &[u8], k: usize) -> EvcMv
 
 pub fn is_one(r: &[u8], k: usize) -> bool
     requires { 2 * k + 2 ≤ length r.now }
+    ensures { result ≡ (number r.now k == 1) }
 {
     number(r, k) == 1
 }
@@ -145,35 +154,46 @@ fn word_of(state: u8) -> u32
     WORDS[usize::from(state % 8)]
 }
 
+// By index: of what a zip over `iter_mut` wrote, a proof knows the length alone.
+pub fn fill_words(words: &mut [u32], states: &[u8])
+    requires { length words.old ≤ length states.now }
+    ensures { words.new ≡ map word_of (take (length words.old) states.now) }
+{
+    for i in 0..words.len() {
+        words[i] = word_of(states[i]);
+    }
+}
+
 pub fn words_of(alloc: Global, states: &[u8]) -> Result<Vec<u32>, AllocError>
     ensures { IfOk result (λ words. words.items ≡ map word_of states.now) }
 {
-    states.iter().map(|state| word_of(*state)).collect(alloc)
+    let mut words = vec![in alloc; 0; states.len()]?;
+    fill_words(&mut words, states);
+    Ok(words)
 }
 
 // ---- arbitrary samples
 
-// A linear congruential sequence from its seed on, so that a record need not hold its samples.
-#[derive(Drop)]
-struct Sequence(u32);
-
-impl Iterator for Sequence {
-    type Item = u16;
-
-    fn next(&mut self) -> Option<u16> {
-        self.0 = self.0.wrapping_mul(1103515245).wrapping_add(12345) % 0x80000000;
-        Some((self.0 / 0x8000) as u16)
-    }
+// A linear congruential sequence, so that a record need not hold its samples.
+fn following(z: u32) -> u32
+    ensures { result ≡ following z }
+{
+    ((u64::from(z) * 1103515245 + 12345) % 0x80000000) as u32
 }
 
-pub fn scatter(samples: &mut [u16], seed: u32) {
-    for (sample, arbitrary) in samples.iter_mut().zip(Sequence(seed)) {
-        *sample = arbitrary;
+pub fn scatter(samples: &mut [u16], seed: u32)
+    ensures { samples.new ≡ scattered seed (length samples.old) }
+{
+    let mut z = seed;
+    for sample in samples.iter_mut() {
+        z = following(z);
+        *sample = (z / 0x8000) as u16;
     }
 }
 
 pub fn samples(alloc: Global, n: usize, seed: u32) -> Result<Vec<u16>, AllocError>
-    ensures { IfOk result (λ samples. vec_len samples ≡ n) }
+    ensures length { IfOk result (λ samples. vec_len samples ≡ n) }
+    ensures value { IfOk result (λ samples. samples.items ≡ scattered seed n) }
 {
     let mut samples = vec![in alloc; 0; n]?;
     scatter(&mut samples, seed);
@@ -189,13 +209,16 @@ pub fn reduce(samples: &mut [u16], limit: u16)
     }
 }
 
-pub fn fill(samples: &mut [u16], seed: u32, limit: u16) {
+pub fn fill(samples: &mut [u16], seed: u32, limit: u16)
+    ensures { samples.new ≡ map (below limit) (scattered seed (length samples.old)) }
+{
     scatter(samples, seed);
     reduce(samples, limit);
 }
 
 pub fn samples_below(alloc: Global, n: usize, seed: u32, limit: u16) -> Result<Vec<u16>, AllocError>
-    ensures { IfOk result (λ samples. vec_len samples ≡ n) }
+    ensures length { IfOk result (λ samples. vec_len samples ≡ n) }
+    ensures value { IfOk result (λ samples. samples.items ≡ map (below limit) (scattered seed n)) }
 {
     let mut samples = vec![in alloc; 0u16; n]?;
     fill(&mut samples, seed, limit);
@@ -227,7 +250,9 @@ pub struct Pictures {
 }
 
 // One sample, if the plane is that long. `get_mut` would need the same `if`.
-fn set_sample(plane: &mut [u16], place: usize, value: u16) {
+fn set_sample(plane: &mut [u16], place: usize, value: u16)
+    ensures { plane.new ≡ set plane.old place value }
+{
     if place < plane.len() {
         plane[place] = value;
     }
@@ -236,6 +261,7 @@ fn set_sample(plane: &mut [u16], place: usize, value: u16) {
 impl Pictures {
     pub fn new(r: &[u8]) -> Pictures
         requires { 30 ≤ length r.now }
+        ensures { result ≡ pictures_of r.now }
     {
         Pictures {
             pic_w: number32(r, 0),
@@ -258,32 +284,48 @@ impl Pictures {
     }
 
     // A plane that is too short to be padded stays.
-    fn pad(&self, t: PlaneType, plane: &mut [u16]) {
+    fn pad(&self, t: PlaneType, plane: &mut [u16])
+        ensures { plane.new ≡ padded_plane self.now t plane.old }
+    {
         if self.is_padded {
             let _ = evc_pad::pad(t, self.pic_w, self.pic_h, plane);
         }
     }
 
-    // Plane k of the six.
+    // Plane k of the six, in samples that are lent.
+    pub fn fill_plane(&self, t: PlaneType, k: u16, seed: u32, plane: &mut [u16])
+        ensures { plane.new ≡ plane_of self.now t k seed (length plane.old) }
+    {
+        fill(plane, seed, self.limit);
+        self.pad(t, plane);
+        if self.set_plane == k {
+            set_sample(plane, usize::from(self.set_place), self.set_value);
+        }
+    }
+
     fn plane(&self, alloc: Global, t: PlaneType, k: u16, seed: u32) -> Result<Vec<u16>, AllocError>
         requires { k < 6 }
-        ensures { IfOk result (λ plane. vec_len plane ≡ get_or self.now.lens k 0) }
+        ensures length { IfOk result (λ plane. vec_len plane ≡ get_or self.now.lens k 0) }
+        ensures value { IfOk result (λ plane. plane.items ≡ plane_of self.now t k seed (get_or self.now.lens k 0)) }
     {
         let n = usize::from(self.lens[usize::from(k)]);
-        let mut plane = samples_below(alloc, n, seed, self.limit)?;
-        self.pad(t, &mut plane);
-        if self.set_plane == k {
-            set_sample(&mut plane, usize::from(self.set_place), self.set_value);
-        }
+        let mut plane = vec![in alloc; 0u16; n]?;
+        self.fill_plane(t, k, seed, &mut plane);
         Ok(plane)
     }
 
     // The picture of a list, each plane from the next seed on.
     pub fn picture(&self, alloc: Global, list: u16) -> Result<Planes, AllocError>
         requires { list < 2 }
-        ensures { IfOk result (λ planes. (vec_len planes.y ≡ get_or self.now.lens (3 * list) 0)
+        ensures lengths { IfOk result (λ planes. (vec_len planes.y ≡ get_or self.now.lens (3 * list) 0)
             × (vec_len planes.u ≡ get_or self.now.lens (3 * list + 1) 0)
             × (vec_len planes.v ≡ get_or self.now.lens (3 * list + 2) 0)) }
+        ensures value { IfOk result (λ planes.
+            let seed = get_or self.now.seeds list 0 in
+            let k = 3 * list in
+            (planes.y.items ≡ plane_of self.now PlaneType.Y k seed (get_or self.now.lens k 0))
+            × (planes.u.items ≡ plane_of self.now PlaneType.UV (k + 1) (seed + 1) (get_or self.now.lens (k + 1) 0))
+            × (planes.v.items ≡ plane_of self.now PlaneType.UV (k + 2) (seed + 2) (get_or self.now.lens (k + 2) 0))) }
     {
         let seed = u32::from(self.seeds[usize::from(list)]);
         let k = 3 * list;
@@ -374,6 +416,15 @@ mod tests {
     use super::*;
     use std::test::Fail;
 
+    #[derive(Drop)]
+    struct Byte(u8);
+
+    impl Record for Byte {
+        fn read<R: Read>(_alloc: Global, input: &mut R) -> io::Result<Option<Byte>> {
+            Ok(read_array::<R, 1>(input)?.map(|[byte]| Byte(byte)))
+        }
+    }
+
     #[test]
     fn makes_words_and_samples(rt: HostRuntime) -> Result<(), Fail> {
         let alloc = rt.alloc();
@@ -382,8 +433,10 @@ mod tests {
             words.as_slice(),
             [0x80000000, 0x00008000, 0xffffffff].as_slice()
         );
-        let samples = samples_below(alloc, 3, 1, 100)?;
-        assert_eq!(rt; samples.as_slice(), [76, 17, 27].as_slice());
+        let all = samples(alloc, 3, 1)?;
+        assert_eq!(rt; all.as_slice(), [33676, 11517, 20227].as_slice());
+        let small = samples_below(alloc, 3, 1, 100)?;
+        assert_eq!(rt; small.as_slice(), [76, 17, 27].as_slice());
         Ok(())
     }
 
@@ -398,12 +451,29 @@ mod tests {
     }
 
     #[test]
+    fn runs_as_many_records_as_asked(rt: HostRuntime) -> Result<(), Fail> {
+        let mut input = [1u8, 2, 3].as_slice();
+        let mut last = 0;
+        for_each_record(rt.alloc(), &mut input, 2, |_, byte: Byte| {
+            last = byte.0;
+            Ok(())
+        })?;
+        assert_eq!(rt; last, 2);
+        assert_eq!(rt; input, [3].as_slice());
+        Ok(())
+    }
+
+    #[test]
     fn makes_a_picture(rt: HostRuntime) -> Result<(), Fail> {
         let mut r = [0u8; 30];
         r[12] = 3;
-        let picture = Pictures::new(&r).picture(rt.alloc(), 0)?;
+        let pictures = Pictures::new(&r);
+        let picture = pictures.picture(rt.alloc(), 0)?;
         assert_eq!(rt; picture.y.len(), 3);
         assert_eq!(rt; picture.v.len(), 0);
+        let mut lent = [0u16; 3];
+        pictures.fill_plane(PlaneType::Y, 0, 0, &mut lent);
+        assert_eq!(rt; picture.y.as_slice(), lent.as_slice());
         Ok(())
     }
 }

@@ -3,6 +3,7 @@
 
 ghost use Rattle.std.specs.Prelude.{◌≤◌, ◌∷◌, ◌++◌, Some, vec_len, IfOk, IfSome};
 ghost use Rattle.std.specs.Fmt.{decimal};
+ghost use Rattle.std.specs.Io.KnownBytes.{Consumes};
 ghost use Rattle.replay_lists.specs.declared.TheConstants.{MAX_TRACE_LEN};
 
 use evc_lists::{MAX_RECORDS, Pictures, Planes, Record, is_one, number};
@@ -89,7 +90,8 @@ impl MapRecord {
 }
 
 fn read_trace<R: Read>(alloc: Global, input: &mut R, asked: u16) -> io::Result<Option<Vec<u8>>>
-    ensures { IfOk result (λ read. IfSome read (λ trace. vec_len trace ≤ MAX_TRACE_LEN)) }
+    ensures length { IfOk result (λ read. IfSome read (λ trace. vec_len trace ≤ MAX_TRACE_LEN)) }
+    ensures taken { IfOk result (λ read. IfSome read (λ trace. Consumes (R.remaining input.old) (R.remaining input.new) trace.items)) }
 {
     let n = evc_lists::lent(asked, MAX_TRACE_LEN);
     evc_lists::read_vec(alloc, input, n)

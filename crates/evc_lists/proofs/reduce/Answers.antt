@@ -1,6 +1,6 @@
 -- `evc_lists::reduce`: a sample below the limit, in its place.
 use Rattle.std.proofs.Common.{rules, arith, ◌≡◌, get_or}
-use Rattle.evc_lists.specs.Units.{below}
+use Rattle.evc_lists.specs.Arbitrary.{below}
 use Rattle.evc_lists.proofs.Reduced.{one_more}
 use Rattle.evc_lists.proofs.reduce.Goals as goal
 

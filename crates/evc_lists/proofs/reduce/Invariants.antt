@@ -1,6 +1,6 @@
 -- The samples passed are below the limit, the others as they were.
 use Rattle.std.proofs.Common.{◌≡◌, ◌++◌, map, take, drop}
-use Rattle.evc_lists.specs.Units.{below}
+use Rattle.evc_lists.specs.Arbitrary.{below}
 use Rattle.evc_lists.proofs.reduce.Given as goal
 
 abbrev pub invariant-loop-sample : goal.invariant-loop-sample
