@@ -1,16 +1,14 @@
 -- Positions in machine numbers: their low bits, and whether two are equal. Assumes nothing.
-use mathlib.Core.Bool.{Bool, true, false}
-use mathlib.Core.Path.{◌≡◌, refl, sym, ap, ◌∙◌}
-use Prim.Native.Nat.{ℕ, suc, ◌-◌, ◌%◌, ◌<◌, ◌≤◌}
+use mathlib.Core.Path.{◌≡◌, refl, ap, ◌∙◌}
+use Prim.Native.Nat.{ℕ, ◌-◌, ◌%◌, ◌<◌, ◌≤◌}
 use native.Mathlib.Omega.{arith}
-use borrow.Author.Tests.{eqb-true, eq-eqb, ne_eqb}
-use lib.Dec.{T, eqb}
+use lib.Dec.{T}
 use lib.Bits.{bit_and, and_mask}
 use lib.IntN.{ℤ, pos, negsuc, nat_abs}
 use lib.Signed.{non_neg}
 use mir.Syntax.{w32, w64}
 use mir.Val.{SFits, Fits, to_z, of_z}
-use Rattle.evc_int.specs.Whole.{◌modulo◌, eq_z}
+use Rattle.evc_int.specs.Whole.{◌modulo◌}
 use Rattle.evc_int.proofs.Whole.{Is, nat, is_by, same}
 use Rattle.evc_int.proofs.Division.{modulo_lt}
 use Rattle.evc_int.proofs.Machine.{is_bits, to_unsigned}
@@ -55,19 +53,3 @@ module _ (z : ℤ) (f : SFits w32 z) where
 
   pub phase_8 : nat_abs (to_z w32 (bit_and (of_z w32 z) 7)) ≡ z modulo 8
   phase_8 = is_rest 8 (λ n. and_mask n 3) rest_8 (omega arith) (omega arith) z f
-
--- ---- numbers are equal where their bits are
-
-same_answer : (p q : Bool) → (p ≡ true → q ≡ true) → (q ≡ true → p ≡ true) → p ≡ q
-same_answer true q f g = sym (f refl)
-same_answer false true f g = g refl
-same_answer false false f g = refl
-
-pub bits_eq : (a b : ℤ) → SFits w32 a → SFits w32 b → eqb (of_z w32 a) (of_z w32 b) ≡ eq_z a b
-bits_eq (pos a) (pos b) f g = refl
-bits_eq (pos a) (negsuc b) f g = let k : a < 2147483648 = f.sfits in let l : b < 2147483648 = g.sfits in ne_eqb a (4294967296 - suc b) (λ e. omega arith)
-bits_eq (negsuc a) (pos b) f g = let k : a < 2147483648 = f.sfits in let l : b < 2147483648 = g.sfits in ne_eqb (4294967296 - suc a) b (λ e. omega arith)
-bits_eq (negsuc a) (negsuc b) f g =
-    let k : a < 2147483648 = f.sfits in
-    let l : b < 2147483648 = g.sfits in
-    same_answer (eqb (4294967296 - suc a) (4294967296 - suc b)) (eqb a b) (λ e. let h = eqb-true (4294967296 - suc a) (4294967296 - suc b) e in eq-eqb a b (omega arith)) (λ e. let h = eqb-true a b e in eq-eqb (4294967296 - suc a) (4294967296 - suc b) (omega arith))

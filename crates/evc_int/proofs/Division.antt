@@ -2,11 +2,11 @@
 use mathlib.Core.Path.{◌≡◌, refl, sym, ap, ◌∙◌}
 use Prim.Native.Nat.{ℕ, suc, ◌+◌, ◌-◌, ◌*◌, ◌/◌, ◌%◌, ◌≤◌, ◌<◌}
 use native.Mathlib.Omega.{arith}
-use native.Mathlib.Nat.{zero-div, add-mul-mod_self_right, div-eq_of_lt-le, div-add-mod, mod-lt, div-le_self, le_trans}
+use native.Mathlib.Nat.{div-eq_of_lt-le, div-add-mod, mod-lt, div-le_self, le_trans}
 use lib.IntN.{ℤ, pos, negsuc, nat_abs, ◌+ℤ◌, ◌*ℤ◌}
 use lib.Signed.{shr_z, quot_z}
 use Rattle.evc_int.specs.Whole.{◌⁺, ◌⁻, ◌modulo◌}
-use Rattle.evc_int.proofs.Whole.{Is, nat, is--, is_neg, is_by, is_eq, abs_neg}
+use Rattle.evc_int.proofs.Whole.{Is, nat, is--, is_by, is_eq, abs_neg}
 use Rattle.evc_int.proofs.Expressions.{Ex, !, ◌⊕◌, ◌⊖◌, ◌⊗◌, value, more, less, reading, solve, fact}
 
 -- q is z / m rounded down where  m q ≤ z < m q + m  (z = a - b, q = c - d)
@@ -53,15 +53,7 @@ split_only m z q r h e =
     let d : shr_z z m ≡ q = solve_shr m (! z) (! q) (omega (arith, fact (! z) (! (pos m) ⊗ ! q ⊕ ! (pos r)) e)) in
     (d, omega (arith, fact (! (pos m) ⊗ ! q ⊕ ! (pos (z modulo m))) (! (pos m) ⊗ ! q ⊕ ! (pos r)) (ap (λ (y : ℤ). pos m *ℤ y +ℤ pos (z modulo m)) (sym d) ∙ sym (split m z p) ∙ e)))
 
--- two numbers that differ by a multiple of m have one remainder
-pub mod_same : (m x y k l : ℕ) → x + k * m ≡ y + l * m → x % m ≡ y % m
-mod_same m x y k l e = sym (add-mul-mod_self_right x k m) ∙ ap (λ (n : ℕ). n % m) e ∙ add-mul-mod_self_right y l m
-
--- ---- a quotient toward zero: each part is divided
-
-pub is_quot : (z : ℤ) (m : ℕ) → Is (quot_z z (pos m)) (z ⁺ / m) (z ⁻ / m)
-is_quot (pos a) m = is_by (nat (a / m)) (omega (arith, zero-div m))
-is_quot (negsuc a) m = is_by (is_neg (nat (suc a / m))) (omega (arith, zero-div m))
+-- ---- the size of a quotient toward zero
 
 pub abs_quot : (x y : ℤ) → nat_abs (quot_z x y) ≡ nat_abs x / nat_abs y
 abs_quot (pos a) (pos b) = refl

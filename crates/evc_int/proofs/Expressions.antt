@@ -65,9 +65,6 @@ fact≤ e f h = ≤ℤ-yes (reading e) (reading f) h
 pub part⁺ : (e : Ex) → value e ⁺ ≡ more e - less e
 part⁺ e = (parts (reading e)).0
 
-pub part⁻ : (e : Ex) → value e ⁻ ≡ less e - more e
-part⁻ e = (parts (reading e)).1
-
 pub tested_ex : (e f : Ex) → Tested (more e + less f) (more f + less e) (lt_z (value e) (value f))
 tested_ex e f = tested (reading e) (reading f)
 

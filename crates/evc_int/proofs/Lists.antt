@@ -7,7 +7,7 @@ use mathlib.Core.List.{List, [], ◌∷◌, ◌++◌}
 use mathlib.Core.Logic.{⊎_elim, ◌⊎◌, inl, inr}
 use native.Mathlib.Numerals.{add-one}
 use native.Mathlib.Omega.{arith}
-use native.Mathlib.Nat.{eq-or-lt_of_le, le_of_suc-le-suc, not-suc-le-zero, mul-le-mul_right, suc-mul, zero-mul, suc-add, zero-add, add-zero, add-suc, add_assoc, le_antisymm}
+use native.Mathlib.Nat.{eq-or-lt_of_le, le_of_suc-le-suc, not-suc-le-zero, mul-le-mul_right, suc-mul, zero-mul, suc-add, zero-add, add-zero, add-suc, add_assoc}
 use lib.Dec.{ltb}
 use lib.ListN.{length, set, length-set, get_or, replicate, take, drop, length-drop, take-append-drop}
 use lib.Seq.{get_or-set_same, get_or-set_other, set_comm, set-set, set-append_left, length-take-le}
@@ -39,21 +39,15 @@ module _ {X : Type 0} where
   unfolding with_block
   with_block-more l at stride n h f = rw add-one
 
-  -- ---- a loop that writes one element a turn: a turn, and its end
+  -- ---- a loop that writes one element a turn
 
   pub row_step : (l l₀ : List X) (at x : ℕ) (f : ℕ → X) (v : X) → l ≡ with_row l₀ at x f → v ≡ f x → set l (at + x) v ≡ with_row l₀ at (x + 1) f
   row_step l l₀ at x f v p q = rw (p, q) (sym (with_row-more l₀ at x f))
-
-  pub row_done : (l l₀ : List X) (at x n : ℕ) (f : ℕ → X) → l ≡ with_row l₀ at x f → x ≤ n → n ≤ x → l ≡ with_row l₀ at n f
-  row_done l l₀ at x n f p a b = let e : x ≡ n = omega arith in rw e at p
 
   -- ---- a loop that writes one row a turn
 
   pub block_step : (l l₀ k : List X) (at stride n y : ℕ) (f : ℕ → ℕ → X) → l ≡ with_block l₀ at stride n y f → k ≡ with_row l (at + y * stride) n (f y) → k ≡ with_block l₀ at stride n (y + 1) f
   block_step l l₀ k at stride n y f p q = q ∙ rw p (sym (with_block-more l₀ at stride n y f))
-
-  pub block_done : (l l₀ : List X) (at stride n y h : ℕ) (f : ℕ → ℕ → X) → l ≡ with_block l₀ at stride n y f → y ≤ h → h ≤ y → l ≡ with_block l₀ at stride n h f
-  block_done l l₀ at stride n y h f p a b = let e : y ≡ h = omega arith in rw e at p
 
   -- ---- the same elements said in another way
 
@@ -198,9 +192,6 @@ module _ {X : Type 0} where
       ∙ with_block-ext (with_block l₀ 0 w c h f) c w n h g (λ (y x : ℕ). f y (c + x)) (λ y x _ _. q y x)
       ∙ ap (λ (i : ℕ). with_block (with_block l₀ 0 w c h f) i w n h (λ (y x : ℕ). f y (c + x))) z
       ∙ with_block-join l₀ 0 w c n h f b
-
-  pub columns_done : (l l₀ : List X) (w c h : ℕ) (f : ℕ → ℕ → X) → l ≡ with_block l₀ 0 w c h f → c ≤ w → w ≤ c → l ≡ with_block l₀ 0 w w h f
-  columns_done l l₀ w c h f p a b = p ∙ ap (λ (i : ℕ). with_block l₀ 0 w i h f) (le_antisymm a b)
 
   -- ---- the same places written again, and places apart
 

@@ -12,7 +12,7 @@ use mir.Val.{SFits}
 use Rattle.evc_int.specs.Whole.{◌modulo◌}
 use Rattle.evc_int.specs.LowBits.{low16, signed16}
 use Rattle.evc_int.proofs.Whole.{nat, of, is--, same}
-use Rattle.evc_int.proofs.Expressions.{ !, ◌⊕◌, ◌⊗◌, ◌⊖◌, solve, fact}
+use Rattle.evc_int.proofs.Expressions.{!, ◌⊕◌, ◌⊗◌, ◌⊖◌, solve, fact}
 use Rattle.evc_int.proofs.Division.{split, modulo_lt}
 use Rattle.evc_int.proofs.Machine.{fit, rng}
 

@@ -36,10 +36,6 @@ is_bits w n h = is_eq (to_z_pos w h) (nat n)
 pub is_mask16 : (n : ℕ) → Is (to_z w32 (bit_and n 65535)) (n % 65536) 0
 is_mask16 n = let e : bit_and n 65535 ≡ n % 65536 = and_mask n 16 in is_by (is_bits w32 (bit_and n 65535) (omega arith)) (omega arith)
 
--- what a callee ensures of an argument, said of the caller's own value
-pub un_rd : {w : Width} {z : ℤ} {a b : ℕ} → SFits w z → Is (to_z w (of_z w z)) a b → Is z a b
-un_rd f p = is_eq (sym (to_z-of_z f)) p
-
 -- a call's signed result as it is read: `.ok` of the call says that it fits
 pub res : (w : Width) {z : ℤ} → mag z < 2 ^ hbits w → to_z w (of_z w z) ≡ z
 res w h = to_z-of_z {w = w} (record { sfits = h })
@@ -107,18 +103,6 @@ widen w w' z f t = subst (SFits w') (sym (to_z-of_z f)) (sfits_widen t f)
 pub ruleset signed-needs = (rules, widen)
 
 -- ---- bits
-
-half_lt : (w : Width) → 2 ^ hbits w < 2 ^ bits w
-half_lt w8 = lit< tt
-half_lt w16 = lit< tt
-half_lt w32 = lit< tt
-half_lt w64 = lit< tt
-half_lt w128 = lit< tt
-
--- what a division asks of the divisor's bits
-pub bits_pos : (w : Width) (z : ℤ) → SFits w z → 0 < nat_abs z → 0 < of_z w z
-bits_pos w (pos n) f h = h
-bits_pos w (negsuc n) f h = omega (arith, half_lt w, f.sfits)
 
 -- the low sixteen bits of an i32 are those of the number
 pub bits_modulo : (z : ℤ) → SFits w32 z → of_z w32 z % 65536 ≡ z modulo 65536

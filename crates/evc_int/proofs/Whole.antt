@@ -115,9 +115,6 @@ int_eq_is x y = go (int_eq x y) (eq_z x y) (signed_Decides x y) (eq_z-true x y) 
     eq_z-same (pos a) y e = rw (sym e) (eq-eqb a a refl)
     eq_z-same (negsuc a) y e = rw (sym e) (eq-eqb a a refl)
 
-pub as_pos : {z : ℤ} {a b : ℕ} → Is z a b → (n : ℕ) → a ≡ n + b → z ≡ pos n
-as_pos p n h = same p (nat n) (omega arith)
-
 -- the two parts of a number, by differences that stop at 0
 parts' : (z : ℤ) (a b : ℕ) → z ⁺ + b ≡ a + z ⁻ → (z ⁺ ≡ a - b) × (z ⁻ ≡ b - a)
 parts' (pos n) a b e = omega arith
@@ -190,9 +187,6 @@ module _ {x y : ℤ} {a b c d : ℕ} (p : Is x a b) (q : Is y c d) where
   pub le_yes : le_z x y ≡ true → a + d ≤ c + b
   le_yes e = let h = told_yes tested_le e in omega arith
 
-  pub le_no : le_z x y ≡ false → c + b < a + d
-  le_no e = told_no tested_le e
-
   -- a test of a definition, from the fact
   pub lt_true : a + d < c + b → lt_z x y ≡ true
   lt_true h = tell_yes tested h
@@ -202,9 +196,6 @@ module _ {x y : ℤ} {a b c d : ℕ} (p : Is x a b) (q : Is y c d) where
 
   pub le_true : a + d ≤ c + b → le_z x y ≡ true
   le_true h = tell_yes tested_le (omega arith)
-
-  pub le_false : c + b < a + d → le_z x y ≡ false
-  le_false h = tell_no tested_le h
 
   -- the orders that a clause may cite
   pub ≤ℤ-yes : x ≤ℤ y → a + d ≤ c + b

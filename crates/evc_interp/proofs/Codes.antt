@@ -20,10 +20,6 @@ use Rattle.evc_interp.specs.Prediction.{predicted, is_side, window_exceeds, mc_p
 use Rattle.evc_interp.proofs.Windows.{side}
 
 module _ (k : PlaneType) (W H : ℕ) (gmv : QpelPlace) (w h : ℕ) (s d : List ℕ) where
-  pub code_1 : bad_picture W H ≡ true → 1 ≡ mc_plane_code k W H gmv w h s d
-  unfolding mc_plane_code
-  code_1 b = sym (refused _ _ _ b)
-
   module _ (good : bad_picture W H ≡ false) where
     pub code_2 : not (is_side k w && is_side k h) ≡ true → 2 ≡ mc_plane_code k W H gmv w h s d
     unfolding mc_plane_code

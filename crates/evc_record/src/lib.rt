@@ -10,7 +10,8 @@ ghost use Rattle.evc_lanes.specs.Inner.{is_row_width};
 ghost use Rattle.evc_mc.specs.Block.{luma, cb, cr, pred_len, answer_of, mc2_answer, with_samples, first_sample};
 ghost use Rattle.evc_mc.specs.Inner.{block_sample};
 ghost use Rattle.evc_trace.specs.Format.{count_len, record_of};
-ghost use Rattle.evc_record.specs.Record.{planes, planes_of, with_planes, picture_short, source, block_of, pocs_of, motion_of, list0_of, list1_of, blank, form_code, record_answer, place_in, with_picture};
+ghost use Rattle.evc_record.specs.Record.{planes, planes_of, with_planes, picture_short, source, place_in, with_picture};
+ghost use Rattle.evc_record.specs.Record.{block_of, pocs_of, motion_of, list0_of, list1_of, blank, form_code, record_answer};
 ghost use Rattle.evc_record.specs.Inner.{after_record};
 
 use evc_def::{Block, EvcBlock, Refusal};

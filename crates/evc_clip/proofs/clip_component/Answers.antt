@@ -6,7 +6,7 @@ use lib.IntN.{ℤ, pos, ◌-ℤ◌, ◌*ℤ◌}
 use mir.Facts.{to_z-of_z}
 use mir.Syntax.{w16}
 use mir.Val.{SFits}
-use Rattle.evc_int.proofs.Expressions.{ !, ◌⊕◌, ◌⊖◌, ◌⊗◌, solve}
+use Rattle.evc_int.proofs.Expressions.{!, ◌⊕◌, ◌⊖◌, ◌⊗◌, solve}
 use Rattle.evc_clip.specs.Clip.{place_of, clip_component}
 use Rattle.evc_clip.proofs.Laws.{clipped_fits}
 use Rattle.evc_clip.proofs.clip_component.Goals as goal

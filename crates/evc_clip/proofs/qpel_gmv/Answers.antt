@@ -5,7 +5,7 @@ use native.Mathlib.Omega.{arith}
 use lib.IntN.{ℤ, pos, ◌+ℤ◌, ◌*ℤ◌}
 use mir.Facts.{to_z-of_z}
 use Rattle.evc_int.specs.Whole.{−◌, clip3}
-use Rattle.evc_int.proofs.Expressions.{ !, ◌⊕◌, ◌⊖◌, ◌⊗◌, solve}
+use Rattle.evc_int.proofs.Expressions.{!, ◌⊕◌, ◌⊖◌, ◌⊗◌, solve}
 use Rattle.evc_def.specs.Blocks.{Allowed}
 use Rattle.evc_clip.specs.Clip.{margin, place_of, clip_component}
 use Rattle.evc_clip.proofs.Laws.{last_place, clipped_place_lem}
