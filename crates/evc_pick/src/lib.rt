@@ -28,7 +28,7 @@ fn pick<'a>(
 // One plane of a list to the picked block, at the plane's offset.
 pub fn predict_component<'p, 'a>(
     t: PlaneType,
-    p: &Position,
+    p: &'p Position,
     w: usize,
     h: usize,
     plane: &'p [u16],
