@@ -112,8 +112,20 @@ impl RefPicList<'_> {
         let pic = b.picture();
         let w = b.given.w;
         let h = b.given.h;
-        let luma = Window { t: PlaneType::Y, pic, gmv, w, h };
-        let chroma = Window { t: PlaneType::UV, pic, gmv, w: w / 2, h: h / 2 };
+        let luma = Window {
+            t: PlaneType::Y,
+            pic,
+            gmv,
+            w,
+            h,
+        };
+        let chroma = Window {
+            t: PlaneType::UV,
+            pic,
+            gmv,
+            w: w / 2,
+            h: h / 2,
+        };
         luma.exceeds(y) | chroma.exceeds(u) | chroma.exceeds(v)
     }
 
