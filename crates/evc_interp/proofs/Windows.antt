@@ -33,7 +33,10 @@ use Rattle.evc_plane.proofs.Sizes.{sizes}
 use Rattle.evc_filter.specs.Filter.{phases, lead, reach, interpolated, interpolated_twice}
 use Rattle.evc_lanes.specs.Inner.{is_row_width}
 use Rattle.evc_interp.specs.Prediction.{phase_of, pel_of, is_filtered, start_of, window_of, sample_by, predicted, is_side, window_exceeds, mc_plane_code}
-use Rattle.evc_paths.specs.Inner.{Within}
+use Rattle.evc_paths.specs.Inner.{Within, along, step_of, is_across, is_down, path_of}
+use Rattle.evc_paths.specs.declared.Direction.{Direction}
+use Rattle.evc_paths.specs.declared.Direction.TheVariants.{Across, Down}
+use Rattle.evc_paths.specs.declared.Path.TheVariants.{One}
 use Rattle.evc_interp.specs.Inner.{position_of, Readable, sample_from}
 use Rattle.evc_interp.specs.declared.Position.{Position}
 
@@ -183,6 +186,13 @@ pub phase_small : (k : PlaneType) (z : ℤ) (n : ℕ) → n ≡ phase_of k z →
 unfolding phase_of
 phase_small k z n e = subst (λ (n : ℕ). n < phases k) (sym e) (modulo_lt (phases k) z (some_phase k))
 
+-- what holds of two directions, of the path that filters them
+pub of_path : (P : Bool → Bool → Type 0) (across down : Bool) → P across down → P (is_across (path_of across down)) (is_down (path_of across down))
+of_path P false false p = p
+of_path P true false p = p
+of_path P false true p = p
+of_path P true true p = p
+
 -- ---- an accepted call, from the position that the code has
 
 module _ (k : PlaneType) (W H : ℕ) (ori : EvcMv) (gmv : QpelPlace) (w h : ℕ) (s : List ℕ) (p : Position) (e : p ≡ position_of k W H ori gmv) where
@@ -200,8 +210,8 @@ module _ (k : PlaneType) (W H : ℕ) (ori : EvcMv) (gmv : QpelPlace) (w h : ℕ)
       given =
           let a = path_asks k W H gmv w h s d g across down _ _ refl refl (w + cond across (reach k) 0) (h + cond down (reach k) 0) (omega arith) (omega arith) in
           record {
-            inside = a.0;
-            within = a.1;
+            inside = of_path (λ (across down : Bool). window_of k W H (is_filtered k ori.x) (is_filtered k ori.y) gmv + (h + cond down (reach k) 0) * stride_of k W + (w + cond across (reach k) 0) ≤ length s + stride_of k W) across down a.0;
+            within = of_path (λ (across down : Bool). Within s (window_of k W H (is_filtered k ori.x) (is_filtered k ori.y) gmv) (stride_of k W) (w + cond across (reach k) 0) (h + cond down (reach k) 0)) across down a.1;
             width = g.w_side.width;
             narrow = g.w_side.small;
             some = g.h_side.some;
@@ -214,17 +224,21 @@ module _ (k : PlaneType) (W H : ℕ) (ori : EvcMv) (gmv : QpelPlace) (w h : ℕ)
 
   pub predicts : (d : List ℕ) (o : ℕ) → with_block d o w w h (sample_from k p s) ≡ with_block d o w w h (predicted k W H ori gmv s)
   unfolding predicted position_of
-  predicts d o = ap (λ (q : Position). with_block d o w w h (sample_from k q s)) e
+  predicts d o =
+      let across = is_filtered k ori.x in
+      let down = is_filtered k ori.y in
+      ap (λ (q : Position). with_block d o w w h (sample_from k q s)) e
+      ∙ of_path (λ (a b : Bool). with_block d o w w h (λ (y x : ℕ). sample_by k a b (phase_of k gmv.x.0) (phase_of k gmv.y.0) s (window_of k W H across down gmv + y * stride_of k W + x) (stride_of k W)) ≡ with_block d o w w h (predicted k W H ori gmv s)) across down refl
 
 -- ---- one direction is one of the paths
 
-pub one_path : (k : PlaneType) (a : Bool) (dx dy r : ℕ) (s d : List ℕ) (w h at S : ℕ) → r ≡ cond a dx dy → with_block d 0 w w h (λ (y x : ℕ). interpolated k r s (at + y * S + x) (cond a 1 S)) ≡ with_block d 0 w w h (λ (y x : ℕ). sample_by k a (not a) dx dy s (at + y * S + x) S)
+pub one_path : (k : PlaneType) (f : Direction) (dx dy r : ℕ) (s d : List ℕ) (w h at S : ℕ) → r ≡ along f dx dy → with_block d 0 w w h (λ (y x : ℕ). interpolated k r s (at + y * S + x) (step_of f S)) ≡ with_block d 0 w w h (λ (y x : ℕ). sample_by k (is_across (One f)) (is_down (One f)) dx dy s (at + y * S + x) S)
 unfolding sample_by
-one_path k a dx dy r s d w h at S e = with_block-ext d 0 w w h _ _ (λ y x ly lx. ap (λ (i : ℕ). interpolated k i s (at + y * S + x) (cond a 1 S)) e ∙ go a (at + y * S + x))
+one_path k f dx dy r s d w h at S e = with_block-ext d 0 w w h _ _ (λ y x ly lx. ap (λ (i : ℕ). interpolated k i s (at + y * S + x) (step_of f S)) e ∙ go f (at + y * S + x))
   where
-    go : (a : Bool) (i : ℕ) → interpolated k (cond a dx dy) s i (cond a 1 S) ≡ sample_by k a (not a) dx dy s i S
-    go true i = refl
-    go false i = refl
+    go : (f : Direction) (i : ℕ) → interpolated k (along f dx dy) s i (step_of f S) ≡ sample_by k (is_across (One f)) (is_down (One f)) dx dy s i S
+    go Across i = refl
+    go Down i = refl
 
 -- ---- what the checks ask and give
 

@@ -6,12 +6,13 @@ ghost use Rattle.evc_def.specs.Refusals.{code_of};
 ghost use Rattle.evc_def.specs.Places.{given_place};
 ghost use Rattle.evc_plane.specs.Planes.{plane_len};
 ghost use Rattle.evc_filter.specs.Filter.{lead};
+ghost use Rattle.evc_paths.specs.Inner.{along, filters, is_across, is_down, path_of};
 ghost use Rattle.evc_interp.specs.Prediction.{phase_of, pel_of, is_filtered, start_of, window_of, is_side, window_exceeds, mc_plane_code, mc_plane_after};
-ghost use Rattle.evc_interp.specs.declared.Position.{Position};
 ghost use Rattle.evc_interp.specs.Inner.{position_of, Readable, sample_from};
 
 use evc_def::{EvcMv, Pel, Picture, Qpel, QpelPlace, Refusal};
-use evc_plane::PlaneType;
+use evc_paths::{Direction, Path};
+use evc_plane::{PlaneSlice, PlaneType};
 
 // ---- path, phase and whole sample
 
@@ -49,17 +50,31 @@ fn lead(t: PlaneType) -> i32
     }
 }
 
-fn start(t: PlaneType, filtered: bool, z: Qpel) -> Pel
-    ensures { result.0 ≡ start_of t filtered z.0 }
+// Where a path starts in a direction: the lead before its block, if it is filtered.
+fn start(t: PlaneType, path: Path, direction: Direction, z: Qpel) -> Pel
+    ensures { result.0 ≡ start_of t (filters path direction) z.0 }
 {
     let at = pel(t, z);
-    if filtered { Pel(at.0 - lead(t)) } else { at }
+    if path.filters(direction) { Pel(at.0 - lead(t)) } else { at }
 }
 
-fn window(t: PlaneType, pic: Picture, across: bool, down: bool, gmv: QpelPlace) -> usize
-    ensures { result ≡ window_of t pic.w pic.h across down gmv }
+fn window_at(t: PlaneType, pic: Picture, path: Path, gmv: QpelPlace) -> usize
+    ensures { result ≡ window_of t pic.w pic.h (is_across path) (is_down path) gmv }
 {
-    evc_plane::window_start(t, pic, start(t, across, gmv.x), start(t, down, gmv.y))
+    let x = start(t, path, Direction::Across, gmv.x);
+    let y = start(t, path, Direction::Down, gmv.y);
+    evc_plane::window_start(t, pic, x, y)
+}
+
+fn path_of(t: PlaneType, ori_mv: EvcMv) -> Path
+    ensures { result ≡ path_of (is_filtered t ori_mv.x) (is_filtered t ori_mv.y) }
+{
+    match (is_filtered(t, ori_mv.x), is_filtered(t, ori_mv.y)) {
+        (false, false) => Path::Whole,
+        (true, false) => Path::One(Direction::Across),
+        (false, true) => Path::One(Direction::Down),
+        (true, true) => Path::Both,
+    }
 }
 
 // Where a block is predicted from, and how.
@@ -67,57 +82,58 @@ fn window(t: PlaneType, pic: Picture, across: bool, down: bool, gmv: QpelPlace) 
 pub struct Position {
     pub stride: usize,
     pub at: usize,
-    pub across: bool,
-    pub down: bool,
+    pub path: Path,
     pub dx: usize,
     pub dy: usize,
+}
+
+impl Position {
+    fn phase(&self, direction: Direction) -> usize
+        ensures { result ≡ along direction self.now.dx self.now.dy }
+    {
+        match direction {
+            Direction::Across => self.dx,
+            Direction::Down => self.dy,
+        }
+    }
 }
 
 pub fn position_of(t: PlaneType, pic: Picture, ori_mv: EvcMv, gmv: QpelPlace) -> Position
     ensures { result ≡ position_of t pic.w pic.h ori_mv gmv }
 {
-    let c = evc_plane::plane_config(t, pic);
-    let across = is_filtered(t, ori_mv.x);
-    let down = is_filtered(t, ori_mv.y);
+    let path = path_of(t, ori_mv);
     Position {
-        stride: c.stride,
-        at: window(t, pic, across, down, gmv),
-        across,
-        down,
+        stride: evc_plane::plane_config(t, pic).stride,
+        at: window_at(t, pic, path, gmv),
+        path,
         dx: phase(t, gmv.x),
         dy: phase(t, gmv.y),
     }
 }
 
-// The block by its path. Plain numbers, since a record would be stored and read again at each call.
+// The block by its path.
 pub fn predict(
     t: PlaneType,
-    stride: usize,
-    at: usize,
-    across: bool,
-    down: bool,
-    dx: usize,
-    dy: usize,
+    p: &Position,
     w: usize,
     h: usize,
     plane: &[u16],
     pred: &mut [u16],
 )
-    requires { Readable t (record { stride = stride; at = at; across = across; down = down; dx = dx; dy = dy }) w h plane.now × (h * w ≤ length pred.old) }
-    ensures { (
-        let p : Position = record { stride = stride; at = at; across = across; down = down; dx = dx; dy = dy } in
-        pred.new ≡ with_block pred.old 0 w w h (sample_from t p plane.now)) }
+    requires { Readable t p.now w h plane.now × (h * w ≤ length pred.old) }
+    ensures { pred.new ≡ with_block pred.old 0 w w h (sample_from t p.now plane.now) }
 {
-    // One call for one direction: with two it would not be built into this function.
-    match across & down {
-        true => evc_paths::evc_mc_nn(t, &*plane, at, stride, w, h, dx, dy, pred),
-        false => match across | down {
-            true => {
-                let phase = evc_paths::select(across, dx, dy);
-                evc_paths::evc_mc_one(t, &*plane, at, stride, across, w, h, phase, pred);
-            }
-            false => evc_paths::evc_mc_00(&*plane, at, stride, w, h, pred),
-        },
+    let window = PlaneSlice {
+        plane,
+        stride: p.stride,
+        at: p.at,
+    };
+    match p.path {
+        Path::Whole => evc_paths::evc_mc_00(&window, w, h, pred),
+        Path::One(direction) => {
+            evc_paths::evc_mc_one(t, &window, direction, w, h, p.phase(direction), pred);
+        }
+        Path::Both => evc_paths::evc_mc_nn(t, &window, w, h, p.dx, p.dy, pred),
     }
 }
 
@@ -142,51 +158,33 @@ fn is_side(t: PlaneType, n: u32) -> bool
     }
 }
 
-// On every path the window of both directions is examined.
-pub fn window_exceeds(
-    t: PlaneType,
-    pic: Picture,
-    gmv: QpelPlace,
-    w: u32,
-    h: u32,
-    plane: &[u16],
-) -> bool
-    requires sides { (is_side t w ≡ true) × (is_side t h ≡ true) }
-    requires long_enough { plane_len t pic.w pic.h ≤ length plane.now }
-    ensures { result ≡ window_exceeds t pic.w pic.h gmv w h plane.now }
-{
-    let c = evc_plane::plane_config(t, pic);
-    let more = evc_paths::rows_more(t);
-    evc_samples::window_exceeds(
-        plane,
-        window(t, pic, true, true, gmv),
-        c.stride,
-        w as usize + more,
-        h as usize + more,
-    )
+// The window of a block on both filtered directions, which is examined on every path. The sides are the block's.
+#[derive(Clone, Copy)]
+pub struct Window {
+    pub t: PlaneType,
+    pub pic: Picture,
+    pub gmv: QpelPlace,
+    pub w: u32,
+    pub h: u32,
+    pub ghost w_side: { is_side t w ≡ true },
+    pub ghost h_side: { is_side t h ≡ true },
 }
 
-// The same of two planes with one window: cb and cr.
-pub fn windows_exceed(
-    t: PlaneType,
-    pic: Picture,
-    gmv: QpelPlace,
-    w: u32,
-    h: u32,
-    u: &[u16],
-    v: &[u16],
-) -> bool
-    requires sides { (is_side t w ≡ true) × (is_side t h ≡ true) }
-    requires long_enough { (plane_len t pic.w pic.h ≤ length u.now) × (plane_len t pic.w pic.h ≤ length v.now) }
-    ensures { result ≡ window_exceeds t pic.w pic.h gmv w h u.now || window_exceeds t pic.w pic.h gmv w h v.now }
-{
-    let c = evc_plane::plane_config(t, pic);
-    let more = evc_paths::rows_more(t);
-    let at = window(t, pic, true, true, gmv);
-    let n = w as usize + more;
-    let m = h as usize + more;
-    evc_samples::window_exceeds(u, at, c.stride, n, m)
-        | evc_samples::window_exceeds(v, at, c.stride, n, m)
+impl Window {
+    pub fn exceeds(self, plane: &[u16]) -> bool
+        requires { plane_len self.t self.pic.w self.pic.h ≤ length plane.now }
+        ensures { result ≡ window_exceeds self.t self.pic.w self.pic.h self.gmv self.w self.h plane.now }
+    {
+        let c = evc_plane::plane_config(self.t, self.pic);
+        let more = evc_paths::rows_more(self.t);
+        evc_samples::window_exceeds(
+            plane,
+            window_at(self.t, self.pic, Path::Both, self.gmv),
+            c.stride,
+            self.w as usize + more,
+            self.h as usize + more,
+        )
+    }
 }
 
 fn is_short(t: PlaneType, pic: Picture, w: u32, h: u32, plane: usize, pred: usize) -> bool
@@ -218,14 +216,11 @@ fn mc_plane(
         return Err(Refusal::Buffer);
     }
     let p = position_of(t, pic, ori_mv, gmv);
-    if window_exceeds(t, pic, gmv, w, h, plane) {
+    let window = Window { t, pic, gmv, w, h };
+    if window.exceeds(plane) {
         return Err(Refusal::Sample);
     }
-    let w = w as usize;
-    let h = h as usize;
-    predict(
-        t, p.stride, p.at, p.across, p.down, p.dx, p.dy, w, h, plane, pred,
-    );
+    predict(t, &p, w as usize, h as usize, plane, pred);
     Ok(())
 }
 

@@ -8,7 +8,7 @@ use lib.Dec.{eqb}
 use lib.IntN.{ℤ, pos, negsuc, ◌+ℤ◌}
 use Rattle.evc_int.specs.Whole.{eq_z}
 use Rattle.evc_int.proofs.Whole.{eq_z-true}
-use Rattle.evc_int.proofs.Expressions.{!, ◌⊕◌, solve, fact}
+use Rattle.evc_int.proofs.Expressions.{ !, ◌⊕◌, solve, fact}
 use Rattle.evc_def.specs.Places.{is_same}
 use Rattle.evc_def.specs.declared.EvcBlock.{EvcBlock}
 use Rattle.evc_def.specs.declared.QpelPlace.{QpelPlace}

@@ -12,6 +12,7 @@ ghost use Rattle.evc_mc.specs.Inner.{ListExamined, with_list, block_sample, RowS
 
 use evc_clip::EvcMoved;
 use evc_def::{Block, EvcBlock, EvcMv, MAX_POC, Picture, QpelPlace, Refusal};
+use evc_interp::Window;
 use evc_plane::PlaneType;
 
 // A list of a block: whether it is in use, its vector, and its picture's order count.
@@ -111,8 +112,21 @@ impl RefPicList<'_> {
         let pic = b.picture();
         let w = b.given.w;
         let h = b.given.h;
-        evc_interp::window_exceeds(PlaneType::Y, pic, gmv, w, h, y)
-            | evc_interp::windows_exceed(PlaneType::UV, pic, gmv, w / 2, h / 2, u, v)
+        let luma = Window {
+            t: PlaneType::Y,
+            pic,
+            gmv,
+            w,
+            h,
+        };
+        let chroma = Window {
+            t: PlaneType::UV,
+            pic,
+            gmv,
+            w: w / 2,
+            h: h / 2,
+        };
+        luma.exceeds(y) | chroma.exceeds(u) | chroma.exceeds(v)
     }
 
     // The three planes, if the list is in use, to the block that is picked.
@@ -134,10 +148,10 @@ impl RefPicList<'_> {
         let chroma = evc_interp::position_of(PlaneType::UV, pic, self.list.mv, gmv);
         let offset_u = evc_def::cu_dim_offset(1);
         let offset_v = evc_def::cu_dim_offset(2);
-        evc_pick::predict_component(PlaneType::Y, luma, w, h, y, pred0, pred1, second, 0);
+        evc_pick::predict_component(PlaneType::Y, &luma, w, h, y, pred0, pred1, second, 0);
         evc_pick::predict_component(
             PlaneType::UV,
-            chroma,
+            &chroma,
             w / 2,
             h / 2,
             u,
@@ -148,7 +162,7 @@ impl RefPicList<'_> {
         );
         evc_pick::predict_component(
             PlaneType::UV,
-            chroma,
+            &chroma,
             w / 2,
             h / 2,
             v,

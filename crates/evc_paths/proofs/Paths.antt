@@ -22,7 +22,9 @@ use Rattle.evc_plane.specs.Planes.{side_of}
 use Rattle.evc_plane.specs.declared.PlaneType.{PlaneType}
 use Rattle.evc_plane.specs.declared.PlaneType.TheVariants.{Y, UV}
 use Rattle.evc_filter.specs.declared.Filter.{Filter}
-use Rattle.evc_paths.specs.Inner.{Within}
+use Rattle.evc_paths.specs.Inner.{Within, along, step_of}
+use Rattle.evc_paths.specs.declared.Direction.{Direction}
+use Rattle.evc_paths.specs.declared.Direction.TheVariants.{Across, Down}
 
 abbrev pub Near : ℕ → PlaneType → List ℕ → ℕ → ℕ → Type 0
 Near most k s at step = (j : ℕ) → j ≤ reach k → get_or s (at + j * step) 0 ≤ most
@@ -71,49 +73,46 @@ module _ (k : PlaneType) (s : List ℕ) (at stride w h : ℕ) where
   pub near_down : Within s at stride w (h + reach k) → (y x : ℕ) → y < h → x < w → Near 1023 k s (at + y * stride + x) stride
   near_down q y x ly lx j lj = subst (λ (i : ℕ). get_or s i 0 ≤ 1023) (omega (arith, add-mul y j stride)) (q (y + j) x (omega arith) lx)
 
--- a single direction, n columns from column c on; across or down
-abbrev pub step_of : Bool → ℕ → ℕ
-step_of across stride = cond across 1 stride
-
-module _ (k : PlaneType) (s : List ℕ) (at stride w h : ℕ) (across : Bool) (q : Within s at stride (w + cond across (reach k) 0) (h + cond across 0 (reach k))) where
-  near : (y x : ℕ) → y < h → x < w → Near 1023 k s (at + y * stride + x) (step_of across stride)
-  near = go across q
+-- a single direction, n columns from column c on
+module _ (k : PlaneType) (s : List ℕ) (at stride w h : ℕ) (d : Direction) (q : Within s at stride (w + along d (reach k) 0) (h + along d 0 (reach k))) where
+  near : (y x : ℕ) → y < h → x < w → Near 1023 k s (at + y * stride + x) (step_of d stride)
+  near = go d q
     where
-      go : (b : Bool) → Within s at stride (w + cond b (reach k) 0) (h + cond b 0 (reach k)) → (y x : ℕ) → y < h → x < w → Near 1023 k s (at + y * stride + x) (step_of b stride)
-      go true q = near_across k s at stride w h (λ y x ly lx. q y x (omega arith) lx)
-      go false q = near_down k s at stride w h (λ y x ly lx. q y x ly (omega arith))
+      go : (d : Direction) → Within s at stride (w + along d (reach k) 0) (h + along d 0 (reach k)) → (y x : ℕ) → y < h → x < w → Near 1023 k s (at + y * stride + x) (step_of d stride)
+      go Across q = near_across k s at stride w h (λ y x ly lx. q y x (omega arith) lx)
+      go Down q = near_down k s at stride w h (λ y x ly lx. q y x ly (omega arith))
 
-  near_group : (c n : ℕ) → c + n ≤ w → (y x : ℕ) → y < h → x < n → Near 1023 k s (at + c + y * stride + x) (step_of across stride)
-  near_group c n l y x ly lx = subst (λ (i : ℕ). Near 1023 k s i (step_of across stride)) (omega arith) (near y (c + x) ly (omega arith))
+  near_group : (c n : ℕ) → c + n ≤ w → (y x : ℕ) → y < h → x < n → Near 1023 k s (at + c + y * stride + x) (step_of d stride)
+  near_group c n l y x ly lx = subst (λ (i : ℕ). Near 1023 k s i (step_of d stride)) (omega arith) (near y (c + x) ly (omega arith))
 
-  ends : at + (h + cond across 0 (reach k)) * stride + (w + cond across (reach k) 0) ≤ length s + stride → at + h * stride + w + reach k * step_of across stride ≤ length s + stride
-  ends = go across
+  ends : at + (h + along d 0 (reach k)) * stride + (w + along d (reach k) 0) ≤ length s + stride → at + h * stride + w + reach k * step_of d stride ≤ length s + stride
+  ends = go d
     where
-      go : (b : Bool) → at + (h + cond b 0 (reach k)) * stride + (w + cond b (reach k) 0) ≤ length s + stride → at + h * stride + w + reach k * step_of b stride ≤ length s + stride
-      go true l = omega arith
-      go false l = omega (arith, add-mul h (reach k) stride)
+      go : (d : Direction) → at + (h + along d 0 (reach k)) * stride + (w + along d (reach k) 0) ≤ length s + stride → at + h * stride + w + reach k * step_of d stride ≤ length s + stride
+      go Across l = omega arith
+      go Down l = omega (arith, add-mul h (reach k) stride)
 
   -- n columns from column c on, whose first sample is at i
-  pub single_asks : (phase c n i : ℕ) (d : List ℕ) (f : Filter) → f ≡ filter k (step_of across stride) phase → phase < phases k → c + n ≤ w → i ≡ at + c
-      → at + (h + cond across 0 (reach k)) * stride + (w + cond across (reach k) 0) ≤ length s + stride → h * w ≤ length d
-      → Rows 1023 n stride h s i f.offsets f.taps × (c + h * w + n ≤ length d + w)
-  single_asks phase c n i d f ef l r e a b =
+  pub single_asks : (phase c n i : ℕ) (l₀ : List ℕ) (f : Filter) → f ≡ filter k (step_of d stride) phase → phase < phases k → c + n ≤ w → i ≡ at + c
+      → at + (h + along d 0 (reach k)) * stride + (w + along d (reach k) 0) ≤ length s + stride → h * w ≤ length l₀
+      → Rows 1023 n stride h s i f.offsets f.taps × (c + h * w + n ≤ length l₀ + w)
+  single_asks phase c n i l₀ f ef l r e a b =
       let g = ends a in
       rw (ef, e) (
         record {
-          within = omega (arith, last_place_lem k (step_of across stride));
-          ordered = offsets_ordered k (step_of across stride);
+          within = omega (arith, last_place_lem k (step_of d stride));
+          ordered = offsets_ordered k (step_of d stride);
           small = taps_small k phase l;
-          bounded = λ y x ly lx. bounded 1023 k s (at + c + y * stride + x) (step_of across stride) (near_group c n r y x ly lx);
+          bounded = λ y x ly lx. bounded 1023 k s (at + c + y * stride + x) (step_of d stride) (near_group c n r y x ly lx);
         },
         omega arith,
       )
 
-  pub single_gives : (phase : ℕ) → phase < phases k → (d : List ℕ) (f : Filter) → f ≡ filter k (step_of across stride) phase
-      → with_block d 0 w w h (λ (y x : ℕ). single_at s (at + y * stride + x) f.offsets f.taps) ≡ with_block d 0 w w h (λ (y x : ℕ). interpolated k phase s (at + y * stride + x) (step_of across stride))
-  single_gives phase l d f ef =
-      with_block-ext d 0 w w h _ _
-      (λ y x ly lx. ap (λ (f : Filter). single_at s (at + y * stride + x) f.offsets f.taps) ef ∙ single_is k phase l s (at + y * stride + x) (step_of across stride) (bounded 1023 k s (at + y * stride + x) (step_of across stride) (near y x ly lx)))
+  pub single_gives : (phase : ℕ) → phase < phases k → (l₀ : List ℕ) (f : Filter) → f ≡ filter k (step_of d stride) phase
+      → with_block l₀ 0 w w h (λ (y x : ℕ). single_at s (at + y * stride + x) f.offsets f.taps) ≡ with_block l₀ 0 w w h (λ (y x : ℕ). interpolated k phase s (at + y * stride + x) (step_of d stride))
+  single_gives phase l l₀ f ef =
+      with_block-ext l₀ 0 w w h _ _
+      (λ y x ly lx. ap (λ (f : Filter). single_at s (at + y * stride + x) f.offsets f.taps) ef ∙ single_is k phase l s (at + y * stride + x) (step_of d stride) (bounded 1023 k s (at + y * stride + x) (step_of d stride) (near y x ly lx)))
 
 -- a row of a window, read from its place on
 pub row_sample : (i : ℕ) (s : List ℕ) (x : ℕ) → get_or (drop i s) x 0 ≡ get_or s (i + x) 0

@@ -6,11 +6,37 @@ ghost use Rattle.evc_int.specs.Lists.{with_row, with_block};
 ghost use Rattle.evc_plane.specs.Planes.{side_of};
 ghost use Rattle.evc_filter.specs.Filter.{phases, reach, interpolated, interpolated_twice};
 ghost use Rattle.evc_lanes.specs.Inner.{is_row_width};
-ghost use Rattle.evc_paths.specs.Inner.{Within};
+ghost use Rattle.evc_paths.specs.Inner.{Covers, step_of, along, filters};
 
 use evc_blocks::Layout;
 use evc_filter::{First, Second, Single};
 use evc_plane::{PlaneSlice, PlaneType};
+
+#[derive(Clone, Copy, PartialEq, Eq)]
+pub enum Direction {
+    Across,
+    Down,
+}
+
+// The Rust's evc_mc_l_00, _n0 and _0n, and _nn.
+#[derive(Clone, Copy, PartialEq, Eq)]
+pub enum Path {
+    Whole,
+    One(Direction),
+    Both,
+}
+
+impl Path {
+    pub fn filters(self, direction: Direction) -> bool
+        ensures { result ≡ filters self direction }
+    {
+        match self {
+            Path::Whole => false,
+            Path::One(filtered) => filtered == direction,
+            Path::Both => true,
+        }
+    }
+}
 
 // Through an array: by `copy_from_slice` whole samples take up to 1.4 times as long (luma 32 by 32: 232 against 165 ns).
 fn copy<const N: usize>(s: &[u16], at: usize, d: &mut [u16], to: usize)
@@ -42,15 +68,10 @@ pub fn copy_row(s: &[u16], n: usize, d: &mut [u16], to: usize)
     }
 }
 
-pub fn evc_mc_00(s: &[u16], at: usize, stride: usize, w: usize, h: usize, pred: &mut [u16])
-    requires { (at + h * stride + w ≤ length s.now + stride) × (h * w ≤ length pred.old) × (is_row_width w ≡ true) }
-    ensures { pred.new ≡ with_block pred.old 0 w w h (λ (y x : ℕ). get_or s.now (at + y * stride + x) 0) }
+pub fn evc_mc_00(window: &PlaneSlice, w: usize, h: usize, pred: &mut [u16])
+    requires { (window.now.at + h * window.now.stride + w ≤ length window.now.plane.now + window.now.stride) × (h * w ≤ length pred.old) × (is_row_width w ≡ true) }
+    ensures { pred.new ≡ with_block pred.old 0 w w h (λ (y x : ℕ). get_or window.now.plane.now (window.now.at + y * window.now.stride + x) 0) }
 {
-    let window = PlaneSlice {
-        plane: s,
-        stride,
-        at,
-    };
     for y in 0..h {
         copy_row(window.row(y), w, pred, y * w);
     }
@@ -74,50 +95,61 @@ pub fn rows_more(t: PlaneType) -> usize
     }
 }
 
-pub fn select(first: bool, a: usize, b: usize) -> usize
+fn select(first: bool, a: usize, b: usize) -> usize
     ensures { result ≡ cond first a b }
 {
     if first { a } else { b }
 }
 
-// One direction, across or down. By groups of eight columns; a block of 4 or 2 columns is one group.
+// How far apart the samples under the taps of a direction lie.
+fn step(window: &PlaneSlice, direction: Direction) -> usize
+    ensures { result ≡ step_of direction window.now.stride }
+{
+    match direction {
+        Direction::Across => 1,
+        Direction::Down => window.stride,
+    }
+}
+
+// One direction. By groups of eight columns; a block of 4 or 2 columns is one group.
 pub fn evc_mc_one(
     t: PlaneType,
-    s: &[u16],
-    at: usize,
-    stride: usize,
-    across: bool,
+    window: &PlaneSlice,
+    direction: Direction,
     w: usize,
     h: usize,
     phase: usize,
     pred: &mut [u16],
 )
-    requires t_in_bounds { (at + (h + cond across 0 (reach t)) * stride + (w + cond across (reach t) 0) ≤ length s.now + stride) × (h * w ≤ length pred.old) }
-    requires w_value { (is_row_width w ≡ true) × (w ≤ 64) × (0 < h) × (phase < phases t) × (stride ≤ 65535) }
-    requires within { Within s.now at stride (w + cond across (reach t) 0) (h + cond across 0 (reach t)) }
-    ensures { pred.new ≡ with_block pred.old 0 w w h (λ (y x : ℕ). interpolated t phase s.now (at + y * stride + x) (cond across 1 stride)) }
+    requires covers { Covers window.now (w + along direction (reach t) 0) (h + along direction 0 (reach t)) }
+    requires room { h * w ≤ length pred.old }
+    requires sizes { (is_row_width w ≡ true) × (w ≤ 64) × (0 < h) × (phase < phases t) × (window.now.stride ≤ 65535) }
+    ensures { pred.new ≡ with_block pred.old 0 w w h (λ (y x : ℕ). interpolated t phase window.now.plane.now (window.now.at + y * window.now.stride + x) (step_of direction window.now.stride)) }
 {
-    let f = evc_filter::filter_of(t, select(across, 1, stride), phase);
-    let from = Layout { at, stride };
+    let f = evc_filter::filter_of(t, step(window, direction), phase);
+    let from = Layout {
+        at: window.at,
+        stride: window.stride,
+    };
     let to = Layout { at: 0, stride: w };
     if w < 8 {
-        evc_blocks::sample_block::<Single>(s, from, w, h, f, pred, to, 1);
+        evc_blocks::sample_block::<Single>(window.plane, from, w, h, f, pred, to, 1);
         return;
     }
     // Called at two places, the loop over the rows is not built into this function, where it has 5 additions more:
     // a block of 64 by 64 takes up to a tenth longer.
     if w == 8 {
-        evc_blocks::sample_rows::<Single, 8>(s, from, h, f, pred, to, 1);
+        evc_blocks::sample_rows::<Single, 8>(window.plane, from, h, f, pred, to, 1);
         return;
     }
     for group in 0..w / 8 {
         let cg = 8 * group;
         let from = Layout {
-            at: at + cg,
-            stride,
+            at: window.at + cg,
+            stride: window.stride,
         };
         let to = Layout { at: cg, stride: w };
-        evc_blocks::sample_rows::<Single, 8>(s, from, h, f, pred, to, 1);
+        evc_blocks::sample_rows::<Single, 8>(window.plane, from, h, f, pred, to, 1);
     }
 }
 
@@ -125,9 +157,7 @@ pub fn evc_mc_one(
 // that the second stage goes over them in rows of eight; a block of 2 by 2 has but four.
 fn columns(
     t: PlaneType,
-    s: &[u16],
-    at: usize,
-    stride: usize,
+    window: &PlaneSlice,
     n: usize,
     h: usize,
     dx: usize,
@@ -137,16 +167,20 @@ fn columns(
     to: usize,
     w: usize,
 )
-    requires t_in_bounds { (at + (h + reach t) * stride + (n + reach t) ≤ length s.now + stride) × (to + h * w + n ≤ length pred.old + w) }
-    requires n_value { (is_row_width n ≡ true) × (n ≤ 8) × (is_row_width h ≡ true) × (h ≤ 64) × (dx < phases t) × (dy < phases t) × ((h + reach t) * 8 ≤ length m.old) }
-    requires w_value { (n < 8 → w ≡ n) × Within s.now at stride (n + reach t) (h + reach t) }
-    ensures { pred.new ≡ with_block pred.old to w n h (λ (y x : ℕ). interpolated_twice t dx dy s.now (at + y * stride + x) stride) }
+    requires covers { Covers window.now (n + reach t) (h + reach t) }
+    requires room { (to + h * w + n ≤ length pred.old + w) × (n < 8 → w ≡ n) }
+    requires sizes { (is_row_width n ≡ true) × (n ≤ 8) × (is_row_width h ≡ true) × (h ≤ 64) × (dx < phases t) × (dy < phases t) × ((h + reach t) * 8 ≤ length m.old) }
+    ensures { pred.new ≡ with_block pred.old to w n h (λ (y x : ℕ). interpolated_twice t dx dy window.now.plane.now (window.now.at + y * window.now.stride + x) window.now.stride) }
 {
     let one = unit(h);
     let first = evc_filter::filter_of(t, 1, dx);
     let rows = h + rows_more(t);
+    let from = Layout {
+        at: window.at,
+        stride: window.stride,
+    };
     let between = Layout { at: 0, stride: n };
-    evc_blocks::sample_block::<First>(&*s, Layout { at, stride }, n, rows, first, m, between, one);
+    evc_blocks::sample_block::<First>(window.plane, from, n, rows, first, m, between, one);
     let lanes = select(h * n < 8, 4, 8);
     let second = evc_filter::filter_of(t, n, dy);
     let width = select(n < 8, lanes, w);
@@ -164,82 +198,56 @@ fn columns(
 // By groups of eight columns, as the Rust, through an array of N numbers.
 fn groups<const N: usize>(
     t: PlaneType,
-    s: &[u16],
-    at: usize,
-    stride: usize,
+    window: &PlaneSlice,
     w: usize,
     h: usize,
     dx: usize,
     dy: usize,
     pred: &mut [u16],
 )
-    requires t_in_bounds { (at + (h + reach t) * stride + (w + reach t) ≤ length s.now + stride) × (h * w ≤ length pred.old) }
-    requires w_value { (is_row_width w ≡ true) × (w ≤ 64) × (is_row_width h ≡ true) × (h ≤ 64) × (dx < phases t) × (dy < phases t) × ((h + reach t) * 8 ≤ N) }
+    requires covers { Covers window.now (w + reach t) (h + reach t) }
+    requires room { h * w ≤ length pred.old }
+    requires sizes { (is_row_width w ≡ true) × (w ≤ 64) × (is_row_width h ≡ true) × (h ≤ 64) × (dx < phases t) × (dy < phases t) × ((h + reach t) * 8 ≤ N) }
     requires few { N ≤ 552 }
-    requires within { Within s.now at stride (w + reach t) (h + reach t) }
-    ensures { pred.new ≡ with_block pred.old 0 w w h (λ (y x : ℕ). interpolated_twice t dx dy s.now (at + y * stride + x) stride) }
+    ensures { pred.new ≡ with_block pred.old 0 w w h (λ (y x : ℕ). interpolated_twice t dx dy window.now.plane.now (window.now.at + y * window.now.stride + x) window.now.stride) }
 {
     let mut intermediate = [0u16; N];
     // With one loop for both, the number of columns not a constant, a block of 4 or 2 columns takes a tenth longer.
     if w < 8 {
-        columns(
-            t,
-            s,
-            at,
-            stride,
-            w,
-            h,
-            dx,
-            dy,
-            &mut intermediate,
-            pred,
-            0,
-            w,
-        );
+        columns(t, window, w, h, dx, dy, &mut intermediate, pred, 0, w);
         return;
     }
     for group in 0..w / 8 {
         let cg = 8 * group;
-        columns(
-            t,
-            s,
-            at + cg,
-            stride,
-            8,
-            h,
-            dx,
-            dy,
-            &mut intermediate,
-            pred,
-            cg,
-            w,
-        );
+        let part = PlaneSlice {
+            at: window.at + cg,
+            ..*window
+        };
+        columns(t, &part, 8, h, dx, dy, &mut intermediate, pred, cg, w);
     }
 }
 
 pub fn evc_mc_nn(
     t: PlaneType,
-    s: &[u16],
-    at: usize,
-    stride: usize,
+    window: &PlaneSlice,
     w: usize,
     h: usize,
     dx: usize,
     dy: usize,
     pred: &mut [u16],
 )
-    requires t_in_bounds { (at + (h + reach t) * stride + (w + reach t) ≤ length s.now + stride) × (h * w ≤ length pred.old) }
-    requires w_value { (is_row_width w ≡ true) × (w ≤ 64) × (is_row_width h ≡ true) × (h ≤ side_of t 64) × (dx < phases t) × (dy < phases t) }
-    requires within { Within s.now at stride (w + reach t) (h + reach t) }
-    ensures { pred.new ≡ with_block pred.old 0 w w h (λ (y x : ℕ). interpolated_twice t dx dy s.now (at + y * stride + x) stride) }
+    requires covers { Covers window.now (w + reach t) (h + reach t) }
+    requires room { h * w ≤ length pred.old }
+    requires sizes { (is_row_width w ≡ true) × (w ≤ 64) × (is_row_width h ≡ true) × (h ≤ side_of t 64) × (dx < phases t) × (dy < phases t) }
+    ensures { pred.new ≡ with_block pred.old 0 w w h (λ (y x : ℕ). interpolated_twice t dx dy window.now.plane.now (window.now.at + y * window.now.stride + x) window.now.stride) }
 {
     // Zeroing 552 numbers takes a tenth of the time of a block of 8 rows.
     if h <= 8 {
-        groups::<104>(t, s, at, stride, w, h, dx, dy, pred);
+        groups::<104>(t, window, w, h, dx, dy, pred);
         return;
     }
     match t {
-        PlaneType::Y => groups::<552>(t, s, at, stride, w, h, dx, dy, pred),
-        PlaneType::UV => groups::<280>(t, s, at, stride, w, h, dx, dy, pred),
+        PlaneType::Y => groups::<552>(t, window, w, h, dx, dy, pred),
+        PlaneType::UV => groups::<280>(t, window, w, h, dx, dy, pred),
     }
 }

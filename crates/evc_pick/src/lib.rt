@@ -25,19 +25,10 @@ fn pick<'a>(
     &mut pred[offset..]
 }
 
-fn predict_at(t: PlaneType, p: Position, w: usize, h: usize, plane: &[u16], pred: &mut [u16])
-    requires { Readable t p w h plane.now × (h * w ≤ length pred.old) }
-    ensures { pred.new ≡ with_block pred.old 0 w w h (sample_from t p plane.now) }
-{
-    evc_interp::predict(
-        t, p.stride, p.at, p.across, p.down, p.dx, p.dy, w, h, plane, pred,
-    );
-}
-
 // One plane of a list to the picked block, at the plane's offset.
 pub fn predict_component<'p, 'a>(
     t: PlaneType,
-    p: Position,
+    p: &'p Position,
     w: usize,
     h: usize,
     plane: &'p [u16],
@@ -46,11 +37,11 @@ pub fn predict_component<'p, 'a>(
     second: bool,
     offset: usize,
 )
-    requires readable { Readable t p w h plane.now }
+    requires readable { Readable t p.now w h plane.now }
     requires w_in_bounds { (offset + h * w ≤ length pred0.old) × (offset + h * w ≤ length pred1.old) }
-    ensures pred0_after { pred0.new ≡ cond second pred0.old (with_block pred0.old offset w w h (sample_from t p plane.now)) }
-    ensures pred1_after { pred1.new ≡ cond second (with_block pred1.old offset w w h (sample_from t p plane.now)) pred1.old }
+    ensures pred0_after { pred0.new ≡ cond second pred0.old (with_block pred0.old offset w w h (sample_from t p.now plane.now)) }
+    ensures pred1_after { pred1.new ≡ cond second (with_block pred1.old offset w w h (sample_from t p.now plane.now)) pred1.old }
 {
     let pred = pick(pred0, pred1, second, offset);
-    predict_at(t, p, w, h, plane, pred);
+    evc_interp::predict(t, p, w, h, plane, pred);
 }

@@ -31,24 +31,21 @@ returns-then-is_short c =
     let parts = untouched c.args.t _ _ _ _ _ _ _ _ 4 (omega arith) (code_4 c.args.t _ _ _ _ _ _ _ c.args.pic.accepted allowed (sym c.is_short.ensures ∙ c.if-is_short.true)) in
     record { value = parts.0; pred_after = parts.1 }
 
-pub window_exceeds-requires : goal.window_exceeds-requires
-window_exceeds-requires c =
-    let allowed = tested c.args.t c.args.w c.args.h _ _ _ c.is_side.ensures c.is_side-2.ensures c.if-not-is_side.false in
-    let t = all_true (is_side c.args.t c.args.w) (is_side c.args.t c.args.h) allowed in
-    record { sides = t; long_enough = ltb-false _ _ (none_true _ _ (sym c.is_short.ensures ∙ c.if-is_short.false)).0 }
+pub exceeds-requires : goal.exceeds-requires
+exceeds-requires c = ltb-false _ _ (none_true _ _ (sym c.is_short.ensures ∙ c.if-is_short.false)).0
 
-pub returns-then-window_exceeds : goal.returns-then-window_exceeds
-returns-then-window_exceeds c =
+pub returns-then-exceeds : goal.returns-then-exceeds
+returns-then-exceeds c =
     let allowed = tested c.args.t c.args.w c.args.h _ _ _ c.is_side.ensures c.is_side-2.ensures c.if-not-is_side.false in
     let long = sym c.is_short.ensures ∙ c.if-is_short.false in
-    let parts = untouched c.args.t _ _ _ _ _ _ _ _ 6 (omega arith) (code_6 c.args.t _ _ _ _ _ _ _ c.args.pic.accepted allowed long (sym c.window_exceeds.ensures ∙ c.if-window_exceeds.true)) in
+    let parts = untouched c.args.t _ _ _ _ _ _ _ _ 6 (omega arith) (code_6 c.args.t _ _ _ _ _ _ _ c.args.pic.accepted allowed long (sym c.exceeds.ensures ∙ c.if-exceeds.true)) in
     record { value = parts.0; pred_after = parts.1 }
 
 pub predict-requires : goal.predict-requires
 predict-requires c =
     let allowed = tested c.args.t c.args.w c.args.h _ _ _ c.is_side.ensures c.is_side-2.ensures c.if-not-is_side.false in
     let long = sym c.is_short.ensures ∙ c.if-is_short.false in
-    let done = code_0 c.args.t _ _ _ _ _ _ _ c.args.pic.accepted allowed long (sym c.window_exceeds.ensures ∙ c.if-window_exceeds.false) in
+    let done = code_0 c.args.t _ _ _ _ _ _ _ c.args.pic.accepted allowed long (sym c.exceeds.ensures ∙ c.if-exceeds.false) in
     let g = accepts c.args.t _ _ _ _ _ _ _ (sym done) in
     (readable c.args.t _ _ _ _ _ _ _ c.position_of-p.result c.position_of-p.ensures c.args.pred.now g, omega (arith, g.room, mul_comm c.args.w c.args.h))
 
@@ -56,6 +53,6 @@ pub returns : goal.returns
 returns c =
     let allowed = tested c.args.t c.args.w c.args.h _ _ _ c.is_side.ensures c.is_side-2.ensures c.if-not-is_side.false in
     let long = sym c.is_short.ensures ∙ c.if-is_short.false in
-    let done = code_0 c.args.t _ _ _ _ _ _ _ c.args.pic.accepted allowed long (sym c.window_exceeds.ensures ∙ c.if-window_exceeds.false) in
+    let done = code_0 c.args.t _ _ _ _ _ _ _ c.args.pic.accepted allowed long (sym c.exceeds.ensures ∙ c.if-exceeds.false) in
     let p = c.position_of-p in
     record { value = done; pred_after = c.predict.ensures ∙ predicts c.args.t _ _ _ _ _ _ _ p.result p.ensures _ _ ∙ sym (after c.args.t _ _ _ _ _ _ _ _ (sym done)) }

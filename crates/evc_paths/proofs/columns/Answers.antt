@@ -7,26 +7,26 @@ use Rattle.evc_paths.proofs.columns.Goals as goal
 pub sample_block-requires : goal.sample_block-requires
 sample_block-requires c =
     let a = c.args in
-    let p = c.requires.n_value in
+    let p = c.requires.sizes in
     rw c.filter_of-first.ensures
-    (first_asks a.t a.s.now a.m.now a.at a.stride a.n a.h a.dx p.4 c.requires.w_value.1 p.1 p.6 _ _ c.rows_more.ensures c.unit-one.ensures
-    c.requires.t_in_bounds.0 p.0)
+    (first_asks a.t a.window.now.plane.now a.m.now a.window.now.at a.window.now.stride a.n a.h a.dx p.4 c.requires.covers.1 p.1 p.6 _ _ c.rows_more.ensures c.unit-one.ensures
+    c.requires.covers.0 p.0)
 
 pub sample_block-requires-2 : goal.sample_block-requires-2
 sample_block-requires-2 c =
     let a = c.args in
-    let p = c.requires.n_value in
+    let p = c.requires.sizes in
     let b = lanes a.n a.h p.0 p.1 p.2 in
-    let r = lanes_rows a.n a.h a.w _ _ b p.1 c.requires.w_value.0 c.select-lanes.ensures c.select-width.ensures in
+    let r = lanes_rows a.n a.h a.w _ _ b p.1 c.requires.room.1 c.select-lanes.ensures c.select-width.ensures in
     rw c.filter_of-second.ensures
-    (second_asks a.t a.s.now a.m.now a.at a.stride a.n a.h a.dx p.4 c.requires.w_value.1 p.1 p.6 _ _ _ c.rows_more.ensures c.filter_of-first.ensures
+    (second_asks a.t a.window.now.plane.now a.m.now a.window.now.at a.window.now.stride a.n a.h a.dx p.4 c.requires.covers.1 p.1 p.6 _ _ _ c.rows_more.ensures c.filter_of-first.ensures
     c.sample_block.ensures _ _ r.0 r.1 a.pred.now a.to _ _ _ (let l = p.5 in omega arith) c.unit-one.ensures
-    (lanes_room a.n a.h a.w _ _ b p.1 c.requires.w_value.0 c.select-lanes.ensures c.select-width.ensures a.to _ c.requires.t_in_bounds.1))
+    (lanes_room a.n a.h a.w _ _ b p.1 c.requires.room.1 c.select-lanes.ensures c.select-width.ensures a.to _ c.requires.room.0))
 
 pub returns : goal.returns
 returns c =
     let a = c.args in
-    let p = c.requires.n_value in
+    let p = c.requires.sizes in
     c.sample_block-2.ensures
-    ∙ second_done a.t a.s.now a.m.now a.at a.stride a.n a.h a.dx p.4 c.requires.w_value.1 p.1 p.6 _ _ _ c.rows_more.ensures c.filter_of-first.ensures
-    c.sample_block.ensures a.w _ _ (lanes a.n a.h p.0 p.1 p.2) c.requires.w_value.0 c.select-lanes.ensures c.select-width.ensures a.pred.now a.to a.dy _ c.filter_of-second.ensures p.5
+    ∙ second_done a.t a.window.now.plane.now a.m.now a.window.now.at a.window.now.stride a.n a.h a.dx p.4 c.requires.covers.1 p.1 p.6 _ _ _ c.rows_more.ensures c.filter_of-first.ensures
+    c.sample_block.ensures a.w _ _ (lanes a.n a.h p.0 p.1 p.2) c.requires.room.1 c.select-lanes.ensures c.select-width.ensures a.pred.now a.to a.dy _ c.filter_of-second.ensures p.5

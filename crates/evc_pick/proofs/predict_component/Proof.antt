@@ -1,5 +1,5 @@
--- `predict_component` meets its contract: a walk of its MIR, by hand. All that it knows of `pick` and `predict_at` is that each meets its contract.
--- Both blocks are lent again to `pick` for a lifetime of their own, at a half each of the token, and the part that comes back goes to `predict_at`. Once that has ended the part, `pick`'s clause says how both loans ended, and both blocks come back.
+-- `predict_component` meets its contract: a walk of its MIR, by hand. All that it knows of `pick` and `evc_interp::predict` is that each meets its contract.
+-- Both blocks are lent again to `pick` for a lifetime of their own, at a half each of the token, and the part that comes back goes to `predict`. Once that has ended the part, `pick`'s clause says how both loans ended, and both blocks come back.
 use mathlib.Core.Path.{◌≡◌, refl, sym, ◌∙◌, ap, subst}
 use mathlib.Core.Bool.{Bool, true, false, cond}
 use Prim.Native.Nat.{ℕ, ◌+◌, ◌*◌, ◌<◌, ◌≤◌, ◌^◌}
@@ -12,7 +12,7 @@ use base.Share
 use base.Logic.{SProp, ent, sep, ex, emp, id⊢, ex_e, snd∗}
 use base.Fml.{Lft, GName, Share, Fml, ftrue, fsep, flft, fdead}
 use mir.Syntax.{named, w64}
-use mir.Val.{Val, vunit, vbool, vint}
+use mir.Val.{Val, vunit, vbool, vint, vptr}
 use prog.Memory.{Memory}
 use prog.Routine.{Routine}
 use prog.Wp.{Calls, Loops, WpFn}
@@ -30,7 +30,7 @@ use denote.RattleType.{owns}
 use denote.Laws.{Is, shows}
 use denote.Plain.{uint_vals, uint_Tells, bool_vals, bool_Tells}
 use denote.Builtin.{u16, usize, bool, unit}
-use denote.Ref.{Bor, MutBor}
+use denote.Ref.{Bor, MutBor, ShrRef, shr_vals, shr_Tells, shr_Lawful}
 use denote.Slice.{MutSlice, ShrSlice, Room, shr_slice_vals, mut_slice_vals, mut_slice_Tells, shr_slice_Tells, shr_slice_Lawful}
 use denote.Steps.{only, peeks, heard, nothing}
 use denote.Triple.Entry.{Args, Vals, on_entry}
@@ -41,9 +41,8 @@ use denote.Triple.Clauses.{ensured, lasts}
 use denote.Triple.Table.{framed}
 use denote.Triple.Walked.{says, Stays, stay_dropped, stay_slice, walk_of, Goes-dropped, Goes-slice, ends_at}
 use denote.Exit.{yes}
-use denote.Signature.{plain, shr_slice_of}
+use denote.Signature.{plain, shr_ref_to, shr_slice_of}
 use denote.Enum.Laws as EL
-use denote.Struct.Laws as SL
 use Rattle.std.proofs.raw_atomic.Walks.{proved}
 use Rattle.evc_int.specs.Lists.{with_block}
 use Rattle.evc_int.proofs.Lists.{length-with_block, with_block-part}
@@ -53,7 +52,6 @@ use Rattle.evc_plane.proofs.PlaneType.TheLaws as K'
 use Rattle.evc_interp.specs.declared.Position.{Position}
 use Rattle.evc_interp.specs.Inner.{Readable, sample_from}
 use Rattle.evc_interp.specs.contracts.Position as P
-use Rattle.evc_interp.proofs.Position.TheLaws as P'
 use Rattle.evc_pick.specs.Inner.{with_tail, ends_as, both_end, once_ended}
 use Rattle.evc_pick.proofs.Again.{LentSlice, named_as, at_end, lends_slice_again, slice_comes_back}
 use Rattle.evc_pick.proofs.Ends.{ended}
@@ -61,15 +59,15 @@ use Rattle.evc_pick.proofs.Walk.{needs_both}
 use Rattle.evc_pick.specs.contracts.pick as picker
 use Rattle.evc_pick.proofs.pick.Symbol.{name as #pick}
 use Rattle.evc_pick.proofs.pick.Met as pick-thm
-use Rattle.evc_pick.specs.contracts.predict_at as predict-at
-use Rattle.evc_pick.proofs.predict_at.Symbol.{name as #predict-at}
-use Rattle.evc_pick.proofs.predict_at.Met as predict-at-thm
+use Rattle.evc_interp.specs.contracts.predict as predict
+use Rattle.evc_interp.proofs.predict.Symbol.{name as #predict}
+use Rattle.evc_interp.proofs.predict.Met as predict-thm
 use Rattle.evc_pick.specs.contracts.predict_component as component
 use Rattle.evc_pick.proofs.predict_component.Statement.{statement}
 use Rattle.evc_pick.proofs.predict_component.Code as code
 
 abbrev stayed : Stays component.ended.signature.params component.ended.kept
-stayed = (stay_dropped (plain (λ _. K.the_row)) yes, (stay_dropped (plain (λ _. P.the_row)) yes, (stay_dropped (plain (λ _. usize)) yes, (stay_dropped (plain (λ _. usize)) yes, (stay_dropped (shr_slice_of (0 ∷ []) tt (plain (λ _. u16))) yes, (stay_slice (1 ∷ []) tt (plain (λ _. u16)), (stay_slice (1 ∷ []) tt (plain (λ _. u16)), (stay_dropped (plain (λ _. bool)) yes, (stay_dropped (plain (λ _. usize)) yes, tt)))))))))
+stayed = (stay_dropped (plain (λ _. K.the_row)) yes, (stay_dropped (shr_ref_to (0 ∷ []) tt (plain (λ _. P.the_row))) yes, (stay_dropped (plain (λ _. usize)) yes, (stay_dropped (plain (λ _. usize)) yes, (stay_dropped (shr_slice_of (0 ∷ []) tt (plain (λ _. u16))) yes, (stay_slice (1 ∷ []) tt (plain (λ _. u16)), (stay_slice (1 ∷ []) tt (plain (λ _. u16)), (stay_dropped (plain (λ _. bool)) yes, (stay_dropped (plain (λ _. usize)) yes, tt)))))))))
 
 -- ---- the lists
 -- a block predicted to the elements from k on
@@ -111,12 +109,12 @@ module _ {M : Type 1} {𝓤 : Ura M} (𝓛 : Logic 𝓤) (mem : Memory → SProp
   abbrev Pick : Contract 𝓤
   Pick = triple_of 𝓛 picker.signature (picker.spec 𝓛 mem run)
 
-  abbrev PredictAt : Contract 𝓤
-  PredictAt = triple_of 𝓛 predict-at.signature (predict-at.spec 𝓛 mem run)
+  abbrev Predict : Contract 𝓤
+  Predict = triple_of 𝓛 predict.signature (predict.spec 𝓛 mem run)
 
 module _ {M : Type 1} {𝓤 : Ura M} (𝓛 : Logic 𝓤) (mem : Memory → SProp 𝓤) (run : Routine → Fun 𝓤) (κ₀ κ : Lft) (q₀ q : Share)
-    (t : PlaneType) (p : Position) (w h : ℕ) (plane : Bor (List ℕ)) (x y : MutBor (List ℕ)) (s : Bool) (k : ℕ) (room₀ : Room u16 (length x.now)) (room₁ : Room u16 (length y.now))
-    (readable : Readable t p w h plane.now) (le₀ : k + h * w ≤ length x.now) (le₁ : k + h * w ≤ length y.now) where
+    (t : PlaneType) (p : Bor Position) (w h : ℕ) (plane : Bor (List ℕ)) (x y : MutBor (List ℕ)) (s : Bool) (k : ℕ) (room₀ : Room u16 (length x.now)) (room₁ : Room u16 (length y.now))
+    (readable : Readable t p.now w h plane.now) (le₀ : k + h * w ≤ length x.now) (le₁ : k + h * w ≤ length y.now) where
   open 𝓛 use {H, A}
 
   -- the machine values
@@ -124,10 +122,10 @@ module _ {M : Type 1} {𝓤 : Ura M} (𝓛 : Logic 𝓤) (mem : Memory → SProp
   vt = EL.val K.the_type K'.the_laws t
 
   abbrev vp : Val
-  vp = SL.val P.the_type P'.the_laws p
+  vp = vptr p.ref_ptr.0 p.ref_ptr.1
 
   abbrev sample : ℕ → ℕ → ℕ
-  sample = sample_from t p plane.now
+  sample = sample_from t p.now plane.now
 
   -- a block as it is lent for a lifetime, at its value's own machine value and at any
   abbrev Held : Lft → MutBor (List ℕ) → List Val → Fml
@@ -200,24 +198,24 @@ module _ {M : Type 1} {𝓤 : Ura M} (𝓛 : Logic 𝓤) (mem : Memory → SProp
     told : (r : MutBor (List ℕ)) → ent 𝓤 (Told r) (sep 𝓤 (fact 𝓤 (Shown r)) (sem 𝓛 (once_ended r Both)))
     told r = ex_e 𝓤 _ (λ ws. snd∗ 𝓤 (sem 𝓛 (lasts picker.ended (α ∷ [], tt) (x' α δ, (y' α δ, (s, (k, tt)))) ws)) (sep 𝓤 (fact 𝓤 (Shown r)) (sem 𝓛 (once_ended r Both))))
 
-    -- ---- `predict_at`
-    abbrev κs' : Lfts 2
-    κs' = (κ₀, (α ∷ [], tt))
+    -- ---- `predict`
+    abbrev κs' : Lfts 3
+    κs' = (κ₀, (κ₀, (α ∷ [], tt)))
 
-    abbrev passed : MutBor (List ℕ) → Args predict-at.signature κs'
+    abbrev passed : MutBor (List ℕ) → Args predict.signature κs'
     passed r = (t, (p, (w, (h, (plane, (r, tt))))))
 
-    abbrev to_at : MutBor (List ℕ) → (PredictAt 𝓛 mem run).Ghost
-    to_at r = ((κs', (q₀, (full_share, tt)), tt, passed r, (vt ∷ [], (vp ∷ [], (vint w64 w ∷ [], (vint w64 h ∷ [], (shr_slice_vals plane, (mut_slice_vals r, tt))))))), tt)
+    abbrev to_predict : MutBor (List ℕ) → (Predict 𝓛 mem run).Ghost
+    to_predict r = ((κs', (Share.left q₀, (Share.right q₀, (full_share, tt))), tt, passed r, (vt ∷ [], (vp ∷ [], (vint w64 w ∷ [], (vint w64 h ∷ [], (shr_slice_vals plane, (mut_slice_vals r, tt))))))), tt)
 
     abbrev Passed : List (Item 𝓤)
-    Passed = ‵ ((K.the_row).own_val t (vt ∷ [])) ∷ ‵ ((P.the_row).own_val p (vp ∷ [])) ∷ ‵ (usize.own_val w (vint w64 w ∷ [])) ∷ ‵ (usize.own_val h (vint w64 h ∷ [])) ∷ ‵ ((ShrSlice (named 0) κ₀ u16).own_val plane (shr_slice_vals plane)) ∷ []
+    Passed = ‵ ((K.the_row).own_val t (vt ∷ [])) ∷ ‵ ((ShrRef (named 0) κ₀ P.the_row).own_val p (vp ∷ [])) ∷ ‵ (usize.own_val w (vint w64 w ∷ [])) ∷ ‵ (usize.own_val h (vint w64 h ∷ [])) ∷ ‵ ((ShrSlice (named 0) κ₀ u16).own_val plane (shr_slice_vals plane)) ∷ []
 
-    goes_at : (r : MutBor (List ℕ)) → Shown r → ent 𝓤 (⋆ 𝓛 (‵ (Held (α ∷ []) r (mut_slice_vals r)) ∷ ‵ (flft κ₀ q₀) ∷ ‵ (flft (α ∷ []) full_share) ∷ Passed)) ((PredictAt 𝓛 mem run).pre (to_at r))
-    goes_at r e =
-        qed 𝓛 (‵ (Held (α ∷ []) r (mut_slice_vals r)) ∷ ‵ (flft κ₀ q₀) ∷ ‵ (flft (α ∷ []) full_share) ∷ Passed) ∵
+    goes_predict : (r : MutBor (List ℕ)) → Shown r → ent 𝓤 (⋆ 𝓛 (‵ (Held (α ∷ []) r (mut_slice_vals r)) ∷ ‵ (flft κ₀ (Share.left q₀)) ∷ ‵ (flft κ₀ (Share.right q₀)) ∷ ‵ (flft (α ∷ []) full_share) ∷ Passed)) ((Predict 𝓛 mem run).pre (to_predict r))
+    goes_predict r e =
+        qed 𝓛 (‵ (Held (α ∷ []) r (mut_slice_vals r)) ∷ ‵ (flft κ₀ (Share.left q₀)) ∷ ‵ (flft κ₀ (Share.right q₀)) ∷ ‵ (flft (α ∷ []) full_share) ∷ Passed) ∵
         says ! (readable, subst (λ (l : List ℕ). h * w ≤ length l) (sym e) (enough (x' α δ) (y' α δ) k w h le₀ le₁ s)) $
-        nothing ! $ move ! (2 ∷ 3 ∷ 0 ∷ []) $ group ! 3 $ frame ! $
+        nothing ! $ move ! (2 ∷ 3 ∷ 4 ∷ 0 ∷ []) $ group ! 4 $ frame ! $
         -- [the part; the type; the position; the sides; the plane]
         nothing ! $ move ! (1 ∷ 0 ∷ []) $ fjoin ! $ move ! (5 ∷ 0 ∷ []) $ fjoin ! $ move ! (4 ∷ 0 ∷ []) $ fjoin ! $ move ! (3 ∷ 0 ∷ []) $ fjoin ! $ move ! (2 ∷ 0 ∷ []) $ fjoin ! $ move ! (1 ∷ 0 ∷ []) $ fjoin ! $ done !
 
@@ -259,12 +257,12 @@ module _ {M : Type 1} {𝓤 : Ura M} (𝓛 : Logic 𝓤) (mem : Memory → SProp
       use0 𝓛 (raw (fact 𝓤 (z₁ ≡ last₁ x y k w h le₀ le₁ sample s))) (fact_i 𝓤 _ (emp 𝓤) e₁) $ use0 𝓛 (raw (fact 𝓤 (z₀ ≡ last₀ x y k w h le₀ le₁ sample s))) (fact_i 𝓤 _ (emp 𝓤) e₀) $ done !
 
   -- the walk: local 10 is the part; 11 and 12 are pred0 lent on, 13 and 14 pred1, 16 and 17 the part
-  module _ (C : Calls 𝓤 H) (Λ : Loops 𝓤 H) (fm : FmC 𝓤 H 𝓛.laws C) (known_pick : Triple 𝓤 (C #pick) (Pick 𝓛 mem run)) (known_at : Triple 𝓤 (C #predict-at) (PredictAt 𝓛 mem run)) where
-    walk : Is K.the_row t (EL.vals K.the_type K'.the_laws t) → Is P.the_row p (SL.vals P.the_type P'.the_laws p) → w < 2 ^ 64 → h < 2 ^ 64 → Is (ShrSlice (named 0) κ₀ u16) plane (shr_slice_vals plane) → k < 2 ^ 64
+  module _ (C : Calls 𝓤 H) (Λ : Loops 𝓤 H) (fm : FmC 𝓤 H 𝓛.laws C) (known_pick : Triple 𝓤 (C #pick) (Pick 𝓛 mem run)) (known_predict : Triple 𝓤 (C #predict) (Predict 𝓛 mem run)) where
+    walk : Is K.the_row t (EL.vals K.the_type K'.the_laws t) → Is (ShrRef (named 0) κ₀ P.the_row) p (shr_vals p) → w < 2 ^ 64 → h < 2 ^ 64 → Is (ShrSlice (named 0) κ₀ u16) plane (shr_slice_vals plane) → k < 2 ^ 64
         → ent 𝓤 (on_entry 𝓛 component.signature κs qs a vals)
         (WpFn 𝓤 H C Λ code.function (vt ∷ vp ∷ vint w64 w ∷ vint w64 h ∷ only (shr_slice_vals plane) ∷ only (mut_slice_vals x) ∷ only (mut_slice_vals y) ∷ vbool s ∷ vint w64 k ∷ []) Post)
     walk gt gp fits_w fits_h gplane fits_k =
-        qed 𝓛 ((‵ (flft κ₀ q₀) ⊛ ‵ (flft κ q) ⊛ ‵ ftrue) ∷ ‵ (owns (K.the_row ∷ P.the_row ∷ usize ∷ usize ∷ ShrSlice (named 0) κ₀ u16 ∷ MutSlice (named 1) κ u16 ∷ MutSlice (named 1) κ u16 ∷ bool ∷ usize ∷ []) a vals) ∷ []) ∵
+        qed 𝓛 ((‵ (flft κ₀ q₀) ⊛ ‵ (flft κ q) ⊛ ‵ ftrue) ∷ ‵ (owns (K.the_row ∷ ShrRef (named 0) κ₀ P.the_row ∷ usize ∷ usize ∷ ShrSlice (named 0) κ₀ u16 ∷ MutSlice (named 1) κ u16 ∷ MutSlice (named 1) κ u16 ∷ bool ∷ usize ∷ []) a vals) ∷ []) ∵
         move ! (1 ∷ []) $ fsplit ! $ move ! (1 ∷ []) $ fsplit3 ! $ move ! (2 ∷ []) $ fsplit3 ! $ move ! (2 ∷ []) $ fsplit3 ! $ move ! (2 ∷ []) $ fsplit3 ! $ move ! (10 ∷ []) $ split3 ! $
         keep ! (12 ∷ 10 ∷ 11 ∷ 8 ∷ 9 ∷ 6 ∷ 7 ∷ 3 ∷ 4 ∷ 0 ∷ 1 ∷ []) $
         -- [the type; the position; the sides; the plane; both blocks; the choice; the offset; the plane's token; the blocks']
@@ -272,7 +270,7 @@ module _ {M : Type 1} {𝓤 : Ura M} (𝓛 : Logic 𝓤) (mem : Memory → SProp
         alloc_all ! (λ l. pass_all ! refl (
           ((EL.lawful K.the_type K'.the_laws 𝓛 tt).typed t _ gt).0,
           (
-            ((SL.lawful P.the_type P'.the_laws 𝓛).typed p _ gp).0,
+            ((shr_Lawful 𝓛 (named 0) κ₀ P.the_row).typed p (shr_vals p) gp).0,
             (
               (tt, record { fits = fits_w }),
               (
@@ -297,11 +295,12 @@ module _ {M : Type 1} {𝓤 : Ura M} (𝓛 : Logic 𝓤) (mem : Memory → SProp
         sets ! (addr ! (from ! (fld ! refl (hop ! (look_in_at ! 10 (sub ! 0 refl (whole !))) (stop !))))) refl (tt, tt) $
         sets ! (agg ! (and_then ! (get ! refl) (and_then ! (get_in ! (fld ! refl (stop !)) (sub ! 1 refl (whole !))) (no_more !)))) refl (tt, (tt, (record { fits = is.0.1.0 }, tt))) $
         -- [the part; α's token; true; how the loans end; what their lenders keep; the type; the position; the sides; the plane; the plane's token]
-        move ! (0 ∷ 10 ∷ 1 ∷ 5 ∷ 6 ∷ 7 ∷ 8 ∷ 9 ∷ []) $ group ! 8 $ use1 𝓛 (raw ((PredictAt 𝓛 mem run).pre (to_at α δ r))) (goes_at α δ r shown) $
-        calls_at ! fm (PredictAt 𝓛 mem run) known_at (to_at α δ r) (and_then ! (get ! refl) (and_then ! (get ! refl) (and_then ! (get ! refl) (and_then ! (get ! refl) (and_then ! (get ! refl) (and_then ! (get ! refl) (no_more !))))))) (λ u.
-        use1 𝓛 (later (some (λ (r' : Unit {0}). ((‵ (flft κ₀ q₀) ⊛ ‵ (flft (α ∷ []) full_share) ⊛ ‵ ftrue) ⊛ ‵ (unit.own_val r' (u ∷ []))) ⊛
-        some (λ (ws : Unit {0} × (Unit {0} × (Unit {0} × (Unit {0} × (Unit {0} × (List ℕ × Unit {0})))))). ‵ (lasts predict-at.ended (κs' α δ) (passed α δ r) ws) ⊛ raw (fact 𝓤 (Said α δ r ws.1.1.1.1.1.0)))))) (id⊢ 𝓤 _) $ await ! tt $ pick ! (λ r'.
-        split ! $ split ! $ split3 ! $ move ! (4 ∷ []) $ pick ! (λ ws. split ! $ move ! (1 ∷ []) $ heard ! (Said α δ r ws.1.1.1.1.1.0) (λ said.
+        move ! (10 ∷ []) $ use1 𝓛 (‵ (flft κ₀ (Share.left q₀)) ⊛ ‵ (flft κ₀ (Share.right q₀))) (𝓛.lfts.lft_split κ₀ q₀) $ split ! $
+        move ! (2 ∷ 0 ∷ 1 ∷ 3 ∷ 7 ∷ 8 ∷ 9 ∷ 10 ∷ 11 ∷ []) $ group ! 9 $ use1 𝓛 (raw ((Predict 𝓛 mem run).pre (to_predict α δ r))) (goes_predict α δ r shown) $
+        calls_at ! fm (Predict 𝓛 mem run) known_predict (to_predict α δ r) (and_then ! (get ! refl) (and_then ! (get ! refl) (and_then ! (get ! refl) (and_then ! (get ! refl) (and_then ! (get ! refl) (and_then ! (get ! refl) (no_more !))))))) (λ u.
+        use1 𝓛 (later (some (λ (r' : Unit {0}). ((‵ (flft κ₀ (Share.left q₀)) ⊛ ‵ (flft κ₀ (Share.right q₀)) ⊛ ‵ (flft (α ∷ []) full_share) ⊛ ‵ ftrue) ⊛ ‵ (unit.own_val r' (u ∷ []))) ⊛
+        some (λ (ws : Unit {0} × (Unit {0} × (Unit {0} × (Unit {0} × (Unit {0} × (List ℕ × Unit {0})))))). ‵ (lasts predict.ended (κs' α δ) (passed α δ r) ws) ⊛ raw (fact 𝓤 (Said α δ r ws.1.1.1.1.1.0)))))) (id⊢ 𝓤 _) $ await ! tt $ pick ! (λ r'.
+        split ! $ split ! $ split ! $ move ! (1 ∷ []) $ split3 ! $ move ! (3 ∷ 0 ∷ []) $ use2 𝓛 (‵ (flft κ₀ q₀)) (𝓛.lfts.lft_join κ₀ q₀) $ move ! (4 ∷ []) $ pick ! (λ ws. split ! $ move ! (1 ∷ []) $ heard ! (Said α δ r ws.1.1.1.1.1.0) (λ said.
         fsplit ! $ drop ! $ fsplit ! $ drop ! $ fsplit ! $ drop ! $ fsplit ! $ drop ! $ fsplit ! $ drop ! $ fsplit ! $ fsplit ! $ fsplit ! $
         -- [how the part ended; its length; its borrow; true; the plane's token; α's token; true; the result; true; how the loans end; what their lenders keep]
         move ! (7 ∷ []) $ feq_l ! (λ is_unit. lands_as ! (ap only is_unit) refl (tt, tt) $
@@ -319,16 +318,16 @@ predict_component_spec 𝓤 𝓛 𝓜 𝓡 wired =
     proved 𝓛 component.ended stayed (component.clauses 𝓛 𝓜.mem 𝓡.returns) 𝓜 𝓡 (
       Goes-dropped 𝓛 2 (plain (λ _. K.the_row)) yes (λ κs x f. refl),
       (
-        Goes-dropped 𝓛 2 (plain (λ _. P.the_row)) yes (λ κs x f. refl),
+        Goes-dropped 𝓛 2 (shr_ref_to (0 ∷ []) tt (plain (λ _. P.the_row))) yes (λ κs x f. refl),
         (number, (number, (Goes-dropped 𝓛 2 (shr_slice_of (0 ∷ []) tt (plain (λ _. u16))) yes (λ κs x f. refl), (block, (block, (Goes-dropped 𝓛 2 (plain (λ _. bool)) yes (λ κs x f. refl), (number, tt))))))),
       ),
     )
     component.Key.name code.function (code.unfolded 𝓤 𝓛.H 𝓜 𝓡 wired)
-    (λ κs. (EL.vals K.the_type K'.the_laws, (SL.vals P.the_type P'.the_laws, (uint_vals w64, (uint_vals w64, (shr_slice_vals, (mut_slice_vals, (mut_slice_vals, (bool_vals, (uint_vals w64, tt))))))))))
-    (λ κs. (EL.tells K.the_type K'.the_laws, (SL.tells P.the_type P'.the_laws, (uint_Tells w64, (uint_Tells w64, (shr_slice_Tells (named 0) κs.0 u16, (mut_slice_Tells (named 1) κs.1.0 u16, (mut_slice_Tells (named 1) κs.1.0 u16, (bool_Tells, (uint_Tells w64, tt))))))))))
+    (λ κs. (EL.vals K.the_type K'.the_laws, (shr_vals, (uint_vals w64, (uint_vals w64, (shr_slice_vals, (mut_slice_vals, (mut_slice_vals, (bool_vals, (uint_vals w64, tt))))))))))
+    (λ κs. (EL.tells K.the_type K'.the_laws, (shr_Tells (named 0) κs.0 P.the_row, (uint_Tells w64, (uint_Tells w64, (shr_slice_Tells (named 0) κs.0 u16, (mut_slice_Tells (named 1) κs.1.0 u16, (mut_slice_Tells (named 1) κs.1.0 u16, (bool_Tells, (uint_Tells w64, tt))))))))))
     (λ κs qs bounds a _ are.
     let x = a.1.1.1.1.1.0 in let y = a.1.1.1.1.1.1.0 in let k = a.1.1.1.1.1.1.1.1.0 in let n = a.1.1.1.0 * a.1.1.0 in
-    needs_both 𝓤 (Readable a.0 a.1.0 a.1.1.0 a.1.1.1.0 a.1.1.1.1.0.now) ((k + n ≤ length x.now) × (k + n ≤ length y.now)) _ (λ readable le.
+    needs_both 𝓤 (Readable a.0 a.1.0.now a.1.1.0 a.1.1.1.0 a.1.1.1.1.0.now) ((k + n ≤ length x.now) × (k + n ≤ length y.now)) _ (λ readable le.
     walk 𝓛 𝓜.mem 𝓡.returns κs.0 κs.1.0 qs.0 qs.1.0 a.0 a.1.0 a.1.1.0 a.1.1.1.0 a.1.1.1.1.0 x y a.1.1.1.1.1.1.1.0 k are.1.1.1.1.1.0.0.1 are.1.1.1.1.1.1.0.0.1 readable le.0 le.1
-    𝓣.C 𝓣.Λ (framed 𝓤 𝓛.H 𝓜 𝓣) (pick-thm.met 𝓤 𝓛 𝓜 𝓡 (code.calls-evc_pick::pick 𝓡.env wired)) (predict-at-thm.met 𝓤 𝓛 𝓜 𝓡 (code.calls-evc_pick::predict_at 𝓡.env wired))
+    𝓣.C 𝓣.Λ (framed 𝓤 𝓛.H 𝓜 𝓣) (pick-thm.met 𝓤 𝓛 𝓜 𝓡 (code.calls-evc_pick::pick 𝓡.env wired)) (predict-thm.met 𝓤 𝓛 𝓜 𝓡 (code.calls-evc_interp::predict 𝓡.env wired))
     are.0 are.1.0 are.1.1.0.1 are.1.1.1.0.1 are.1.1.1.1.0 are.1.1.1.1.1.1.1.1.0.1))

@@ -16,35 +16,45 @@ module _ (b : EvcBlock) (l : RefPicList) where
   unfolding list_exceeds
   unused e = simp e
 
-  exceeds_is : (gmv : QpelPlace) (p q : Bool) → l.list.used ≡ true → gmv ≡ clipped_place b l.list.mv
+  exceeds_is : (gmv : QpelPlace) (p q r : Bool) → l.list.used ≡ true → gmv ≡ clipped_place b l.list.mv
       → p ≡ window_exceeds Y b.pic_w b.pic_h gmv b.w b.h l.y
-      → q ≡ window_exceeds UV b.pic_w b.pic_h gmv (width_of b cb) (height_of b cb) l.u || window_exceeds UV b.pic_w b.pic_h gmv (width_of b cr) (height_of b cr) l.v
-      → (p || q) ≡ list_exceeds b l
+      → q ≡ window_exceeds UV b.pic_w b.pic_h gmv (width_of b cb) (height_of b cb) l.u
+      → r ≡ window_exceeds UV b.pic_w b.pic_h gmv (width_of b cr) (height_of b cr) l.v
+      → (p || q || r) ≡ list_exceeds b l
   unfolding list_exceeds
-  exceeds_is gmv p q u e ep eq = rw (ep, eq, e, u) (together (component_exceeds b l luma) (component_exceeds b l cb) (component_exceeds b l cr))
-    where
-      together : (p q r : Bool) → (p || (q || r)) ≡ (p || q || r)
-      together true q r = refl
-      together false q r = refl
+  exceeds_is gmv p q r u e ep eq er = rw (ep, eq, er, e, u) refl
 
 pub returns-then-not-self : goal.returns-then-not-self
 returns-then-not-self c =
     let a = c.args in
     unused a.b.given (list_of a.self.now) c.if-not-self.true
 
-pub window_exceeds-requires : goal.window_exceeds-requires
-window_exceeds-requires c =
-    let a = c.args in
-    let z = sides a.b.given a.b.checked in record { sides = (z.w_side, z.h_side); long_enough = rw (c.picture-pic.ensures.0, c.picture-pic.ensures.1) (list_long a.b.given (list_of a.self.now) c.if-not-self.false c.requires.long_enough luma) }
+pub invariant_of-luma : goal.invariant_of-luma
+invariant_of-luma c = let z = sides c.args.b.given c.args.b.checked in record { w_side = z.w_side; h_side = z.h_side }
 
-pub windows_exceed-requires : goal.windows_exceed-requires
-windows_exceed-requires c =
+pub invariant_of-chroma : goal.invariant_of-chroma
+invariant_of-chroma c =
+    let b = c.args.b in
+    let z = sides b.given b.checked in
+    record { w_side = plane_side UV b.given.w z.w_side; h_side = plane_side UV b.given.h z.h_side }
+
+pub exceeds-requires : goal.exceeds-requires
+exceeds-requires c =
     let a = c.args in
-    let z = sides a.b.given a.b.checked in
-    let l = list_long a.b.given (list_of a.self.now) c.if-not-self.false c.requires.long_enough in record { sides = (plane_side UV a.b.given.w z.w_side, plane_side UV a.b.given.h z.h_side); long_enough = rw (c.picture-pic.ensures.0, c.picture-pic.ensures.1) (l cb, l cr) }
+    rw (c.picture-pic.ensures.0, c.picture-pic.ensures.1) (list_long a.b.given (list_of a.self.now) c.if-not-self.false c.requires.long_enough luma)
+
+pub exceeds-requires-2 : goal.exceeds-requires-2
+exceeds-requires-2 c =
+    let a = c.args in
+    rw (c.picture-pic.ensures.0, c.picture-pic.ensures.1) (list_long a.b.given (list_of a.self.now) c.if-not-self.false c.requires.long_enough cb)
+
+pub exceeds-requires-3 : goal.exceeds-requires-3
+exceeds-requires-3 c =
+    let a = c.args in
+    rw (c.picture-pic.ensures.0, c.picture-pic.ensures.1) (list_long a.b.given (list_of a.self.now) c.if-not-self.false c.requires.long_enough cr)
 
 pub returns : goal.returns
 returns c =
     let a = c.args in
-    exceeds_is a.b.given (list_of a.self.now) _ _ _ c.if-not-self.false c.requires.gmv_value
-    (simp (c.picture-pic.ensures.0, c.picture-pic.ensures.1) at c.window_exceeds.ensures) (simp (c.picture-pic.ensures.0, c.picture-pic.ensures.1) at c.windows_exceed.ensures)
+    exceeds_is a.b.given (list_of a.self.now) _ _ _ _ c.if-not-self.false c.requires.gmv_value
+    (simp (c.picture-pic.ensures.0, c.picture-pic.ensures.1) at c.exceeds.ensures) (simp (c.picture-pic.ensures.0, c.picture-pic.ensures.1) at c.exceeds-2.ensures) (simp (c.picture-pic.ensures.0, c.picture-pic.ensures.1) at c.exceeds-3.ensures)
