@@ -5,6 +5,8 @@ ghost use Rattle.evc_int.specs.Lists.{with_row};
 ghost use Rattle.evc_def.specs.Places.{is_same};
 ghost use Rattle.evc_def.specs.Refusals.{code_of};
 ghost use Rattle.evc_clip.specs.Clip.{clipped_place};
+ghost use Rattle.evc_pick.specs.Inner.{by_block};
+ghost use Rattle.evc_pick.specs.declared.PredBlock.TheVariants.{First, Second};
 ghost use Rattle.evc_mc.specs.Block.{Component, with_samples, list_sample, first_sample, is_bi, average, pred_len};
 ghost use Rattle.evc_mc.specs.Block.{planes_short, list_short, poc_exceeds, list_exceeds, mc2_code, list_moved, answer_of, mc2_answer, mc2_first, mc2_second};
 ghost use Rattle.evc_mc.specs.Lent.{list_of};
@@ -12,6 +14,7 @@ ghost use Rattle.evc_mc.specs.Inner.{ListExamined, with_list, block_sample, RowS
 
 use evc_clip::EvcMoved;
 use evc_def::{Block, EvcBlock, EvcMv, MAX_POC, Picture, QpelPlace, Refusal};
+use evc_pick::PredBlock;
 use evc_plane::PlaneType;
 
 // A list of a block: whether it is in use, its vector, and its picture's order count.
@@ -21,6 +24,15 @@ pub struct EvcList {
     pub used: bool,
     pub mv: EvcMv,
     pub poc: u32,
+}
+
+impl EvcList {
+    // The block that list 0 leaves empty: the second prediction goes there.
+    fn leaves_empty(self) -> PredBlock
+        ensures { result ≡ cond self.used Second First }
+    {
+        if self.used { PredBlock::Second } else { PredBlock::First }
+    }
 }
 
 // What clipping did to each list's vector.
@@ -116,12 +128,12 @@ impl RefPicList<'_> {
     }
 
     // The three planes, if the list is in use, to the block that is picked.
-    fn predict(&self, b: Block, gmv: QpelPlace, pred0: &mut [u16], pred1: &mut [u16], second: bool)
+    fn predict(&self, b: Block, gmv: QpelPlace, pred0: &mut [u16], pred1: &mut [u16], block: PredBlock)
         requires gmv_value { gmv ≡ clipped_place b.given self.now.list.mv }
         requires list_examined { ListExamined b.given gmv (list_of self.now) }
         requires pred_len_in_bounds { (pred_len ≤ length pred0.old) × (pred_len ≤ length pred1.old) }
-        ensures pred0_after { pred0.new ≡ cond second pred0.old (with_list b.given (list_of self.now) pred0.old) }
-        ensures pred1_after { pred1.new ≡ cond second (with_list b.given (list_of self.now) pred1.old) pred1.old }
+        ensures pred0_after { pred0.new ≡ by_block block (with_list b.given (list_of self.now) pred0.old) pred0.old }
+        ensures pred1_after { pred1.new ≡ by_block block pred1.old (with_list b.given (list_of self.now) pred1.old) }
     {
         if !self.list.used {
             return;
@@ -134,7 +146,7 @@ impl RefPicList<'_> {
         let chroma = evc_interp::position_of(PlaneType::UV, pic, self.list.mv, gmv);
         let offset_u = evc_def::cu_dim_offset(1);
         let offset_v = evc_def::cu_dim_offset(2);
-        evc_pick::predict_component(PlaneType::Y, luma, w, h, y, pred0, pred1, second, 0);
+        evc_pick::predict_component(PlaneType::Y, luma, w, h, y, pred0, pred1, block, 0);
         evc_pick::predict_component(
             PlaneType::UV,
             chroma,
@@ -143,7 +155,7 @@ impl RefPicList<'_> {
             u,
             pred0,
             pred1,
-            second,
+            block,
             offset_u,
         );
         evc_pick::predict_component(
@@ -154,7 +166,7 @@ impl RefPicList<'_> {
             v,
             pred0,
             pred1,
-            second,
+            block,
             offset_v,
         );
     }
@@ -255,12 +267,12 @@ fn predict_lists(
         pred1.new ≡ cond (is_bi b.given l0.now.list l1.now.list) (with_samples b.given samples pred1.old) pred1.old }
 {
     let both = l0.list.used & l1.list.used;
-    l0.predict(b, gmv0, pred0, pred1, false);
+    l0.predict(b, gmv0, pred0, pred1, PredBlock::First);
     // Identical motion: list 0 alone stands.
     if both & same_motion(l0.list, gmv0, l1.list, gmv1) {
         return;
     }
-    l1.predict(b, gmv1, pred0, pred1, l0.list.used);
+    l1.predict(b, gmv1, pred0, pred1, l0.list.leaves_empty());
     if both {
         average_block(b, pred0, pred1);
     }

@@ -34,7 +34,7 @@ returns-else-both c =
     let a = c.args in
     let g = accepts a.b.given (list_of a.l0.now) (list_of a.l1.now) a.pred0.now a.pred1.now c.requires.accepted in
     let p = c.predict.ensures in
-    let q = c.predict-2.ensures in let parts = single a.b.given (list_of a.l0.now) (list_of a.l1.now) a.pred0.now a.pred1.now _ _ p.pred0_after p.pred1_after _ _ q.pred0_after q.pred1_after g.some_used c.if-both.false in record { pred0_after = parts.0; pred1_after = parts.1 }
+    let q = c.predict-2.ensures in let parts = single a.b.given (list_of a.l0.now) (list_of a.l1.now) a.pred0.now a.pred1.now _ _ p.pred0_after p.pred1_after _ _ _ c.leaves_empty.ensures q.pred0_after q.pred1_after g.some_used c.if-both.false in record { pred0_after = parts.0; pred1_after = parts.1 }
 
 -- two predictions
 pub average_block-requires : goal.average_block-requires
@@ -47,7 +47,7 @@ average_block-requires c =
     let n = x.auto in
     let m = y.auto in record {
       long_enough = (omega (arith, n.pred0, m.pred0, g.p_long), omega (arith, n.pred1, m.pred1, g.q_long));
-      block_small = both_small a.b.given (list_of a.l0.now) (list_of a.l1.now) a.pred0.now a.pred1.now _ _ x.ensures.pred0_after x.ensures.pred1_after _ _ y.ensures.pred0_after y.ensures.pred1_after t.0 t.1
+      block_small = both_small a.b.given (list_of a.l0.now) (list_of a.l1.now) a.pred0.now a.pred1.now _ _ x.ensures.pred0_after x.ensures.pred1_after _ _ _ c.leaves_empty.ensures y.ensures.pred0_after y.ensures.pred1_after t.0 t.1
           (sides a.b.given g.block) g.p_long g.q_long g.block g.l_short g.l_exceeds g.m_short g.m_exceeds;
     }
 
@@ -59,5 +59,5 @@ returns-then-both c =
     let y = c.predict-2 in
     let both = c.if-both.true in
     let t = both_true a.l0.now.list.used a.l1.now.list.used both in
-    let differs = sym (same_motion_is a.b.given a.l0.now.list a.l1.now.list _ _ _ c.requires.gmv_values.0 c.requires.gmv_values.1 c.same_motion.ensures) ∙ and_false_right (a.l0.now.list.used && a.l1.now.list.used) _ c.if-both-same_motion.false both in let parts = averaged a.b.given (list_of a.l0.now) (list_of a.l1.now) a.pred0.now a.pred1.now _ _ x.ensures.pred0_after x.ensures.pred1_after _ _ y.ensures.pred0_after y.ensures.pred1_after t.0 t.1
+    let differs = sym (same_motion_is a.b.given a.l0.now.list a.l1.now.list _ _ _ c.requires.gmv_values.0 c.requires.gmv_values.1 c.same_motion.ensures) ∙ and_false_right (a.l0.now.list.used && a.l1.now.list.used) _ c.if-both-same_motion.false both in let parts = averaged a.b.given (list_of a.l0.now) (list_of a.l1.now) a.pred0.now a.pred1.now _ _ x.ensures.pred0_after x.ensures.pred1_after _ _ _ c.leaves_empty.ensures y.ensures.pred0_after y.ensures.pred1_after t.0 t.1
     (sides a.b.given g.block) g.p_long g.q_long _ (not_same a.b.given (list_of a.l0.now) (list_of a.l1.now) both differs) c.average_block.ensures in record { pred0_after = parts.0; pred1_after = parts.1 }
