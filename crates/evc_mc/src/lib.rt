@@ -212,15 +212,16 @@ fn check_lists(
 
 // ---- two predictions
 
-// n samples of both blocks from an offset on: the first block gets the average. By index: of what a zip over `iter_mut` wrote, a
-// proof knows the length alone.
+// n samples of both blocks from an offset on: the first block gets the average. `enumerate` and no zip: of what a zip over
+// `iter_mut` wrote, a proof knows the length alone.
 fn average_plane(pred0: &mut [u16], pred1: &[u16], offset: usize, n: usize)
     requires n_in_bounds { (offset + n ≤ length pred0.old) × (offset + n ≤ length pred1.now) }
     requires row_small { RowSmall pred0.old offset n × RowSmall pred1.now offset n }
     ensures { pred0.new ≡ with_row pred0.old offset n (λ (i : ℕ). average (get_or pred0.old (offset + i) 0) (get_or pred1.now (offset + i) 0)) }
 {
-    for i in 0..n {
-        pred0[offset + i] = (pred0[offset + i] + pred1[offset + i] + 1) >> 1;
+    let second = &pred1[offset..offset + n];
+    for (i, sample) in pred0[offset..offset + n].iter_mut().enumerate() {
+        *sample = (*sample + second[i] + 1) >> 1;
     }
 }
 
