@@ -6,7 +6,7 @@ use Prim.Native.Nat.{ℕ, ◌*◌, ◌<◌, ◌≤◌}
 use native.Mathlib.Omega.{arith}
 use lib.Dec.{T}
 use lib.ListN.{length}
-use Rattle.std.proofs.lemmas.Bool.{cond-true, cond-false}
+use Rattle.std.proofs.lemmas.Bool.{cond-true, cond-false, and_from, and_left, and_right}
 use Rattle.evc_def.specs.Codes.{first_of, block_checks}
 use Rattle.evc_def.specs.declared.EvcBlock.{EvcBlock}
 use Rattle.evc_interp.proofs.Windows.{accepts, predicted_small}
@@ -43,19 +43,15 @@ module _ (b : EvcBlock) (l : RefPicList) where
 module _ (b : EvcBlock) (l m : RefPicList) where
   not_both : (l.list.used && m.list.used) ≡ false → is_bi b l.list m.list ≡ false
   unfolding is_bi
-  not_both e = ap (λ (t : Bool). t && not (same_motion b l.list m.list)) e
+  not_both e = and_left (l.list.used && m.list.used) _ e
 
   pub not_same : (l.list.used && m.list.used) ≡ true → same_motion b l.list m.list ≡ false → is_bi b l.list m.list ≡ true
   unfolding is_bi
-  not_same e f = ap₂ (λ (t s : Bool). t && not s) e f
+  not_same e f = and_from (l.list.used && m.list.used) _ e (ap not f)
 
   pub same : same_motion b l.list m.list ≡ true → is_bi b l.list m.list ≡ false
   unfolding is_bi
-  same e = ap (λ (s : Bool). (l.list.used && m.list.used) && not s) e ∙ nothing (l.list.used && m.list.used)
-    where
-      nothing : (t : Bool) → (t && false) ≡ false
-      nothing true = refl
-      nothing false = refl
+  same e = and_right (l.list.used && m.list.used) _ (ap not e)
 
   module _ (c : Component) (y x : ℕ) where
     first_one : is_bi b l.list m.list ≡ false → cond l.list.used (list_sample b l c y x) (list_sample b m c y x) ≡ first_sample b l m c y x

@@ -99,6 +99,7 @@ pub struct RefPicList<'a> {
 }
 
 impl RefPicList<'_> {
+    #[tactic(auto, unfolding(crate::specs::Block::list_short))]
     fn is_short(&self, b: Block) -> bool
         ensures { result ≡ list_short b.given (list_of self.now) }
     {
@@ -172,6 +173,7 @@ impl RefPicList<'_> {
     }
 
     // A list that is not in use has no report.
+    #[tactic(auto, unfolding(crate::specs::Block::list_moved))]
     fn moved(&self, b: Block) -> EvcMoved
         ensures { result ≡ list_moved b.given self.now.list }
     {
@@ -183,6 +185,7 @@ impl RefPicList<'_> {
 }
 
 // 3 to 6, of a block that is allowed.
+#[tactic(auto, using(crate::proofs::Checks::code_is), unfolding(evc_def::specs::Codes::first_of))]
 fn check_lists(
     b: Block,
     l0: &RefPicList,
