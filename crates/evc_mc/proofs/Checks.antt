@@ -23,7 +23,7 @@ use Rattle.evc_plane.specs.declared.PlaneType.TheVariants.{Y, UV}
 use Rattle.evc_clip.specs.Clip.{clipped_place}
 use Rattle.evc_interp.specs.Prediction.{is_side, window_exceeds, mc_plane_code}
 use Rattle.evc_mc.specs.Block.{RefPicList, Component, luma, cb, cr, type_of, plane_of, width_of, height_of, component_exceeds, list_short, poc_exceeds, list_exceeds, pred_len, mc2_code}
-use Rattle.evc_mc.specs.Inner.{Examined, ListExamined}
+use Rattle.evc_mc.specs.Inner.{Examined, ListExamined, Accepted}
 
 -- ---- the block
 
@@ -120,16 +120,6 @@ unfolding mc2_code
 code_is b l m p q e = goes_on 0 (block_checks b) _ tt e
 
 -- ---- an accepted call
-
-pub record Accepted (b : EvcBlock) (l m : RefPicList) (p q : List ℕ) : Type 0 where
-  pub block : first_of (block_checks b) ≡ 0
-  pub some_used : (l.list.used || m.list.used) ≡ true
-  pub l_short : list_short b l ≡ false
-  pub m_short : list_short b m ≡ false
-  pub p_long : pred_len ≤ length p
-  pub q_long : pred_len ≤ length q
-  pub l_exceeds : list_exceeds b l ≡ false
-  pub m_exceeds : list_exceeds b m ≡ false
 
 pub accepts : (b : EvcBlock) (l m : RefPicList) (p q : List ℕ) → mc2_code b l m p q ≡ 0 → Accepted b l m p q
 unfolding mc2_code

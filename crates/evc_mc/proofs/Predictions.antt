@@ -13,6 +13,7 @@ use Rattle.evc_interp.proofs.Windows.{accepts, predicted_small}
 use Rattle.evc_pick.specs.Inner.{by_block}
 use Rattle.evc_pick.specs.declared.PredBlock.{PredBlock}
 use Rattle.evc_pick.specs.declared.PredBlock.TheVariants.{First, Second}
+use Rattle.evc_mc.specs.declared.EvcList.{EvcList}
 use Rattle.evc_mc.specs.Block.{RefPicList, Component, type_of, plane_of, width_of, height_of, with_samples, list_sample, first_sample, same_motion, is_bi, average, list_short, list_exceeds, pred_len}
 use Rattle.evc_mc.specs.Inner.{with_list, block_sample, BlockSmall}
 use Rattle.evc_mc.proofs.Checks.{Sides, sides, plane_accepted, list_examined}
@@ -40,19 +41,20 @@ module _ (b : EvcBlock) (l : RefPicList) where
 
 -- ---- both
 
+module _ (b : EvcBlock) (l m : EvcList) where
+  not_both : (l.used && m.used) ≡ false → is_bi b l m ≡ false
+  unfolding is_bi
+  not_both e = and_left (l.used && m.used) _ e
+
+  pub not_same : (l.used && m.used) ≡ true → same_motion b l m ≡ false → is_bi b l m ≡ true
+  unfolding is_bi
+  not_same e f = and_from (l.used && m.used) _ e (ap not f)
+
+  pub same : same_motion b l m ≡ true → is_bi b l m ≡ false
+  unfolding is_bi
+  same e = and_right (l.used && m.used) _ (ap not e)
+
 module _ (b : EvcBlock) (l m : RefPicList) where
-  not_both : (l.list.used && m.list.used) ≡ false → is_bi b l.list m.list ≡ false
-  unfolding is_bi
-  not_both e = and_left (l.list.used && m.list.used) _ e
-
-  pub not_same : (l.list.used && m.list.used) ≡ true → same_motion b l.list m.list ≡ false → is_bi b l.list m.list ≡ true
-  unfolding is_bi
-  not_same e f = and_from (l.list.used && m.list.used) _ e (ap not f)
-
-  pub same : same_motion b l.list m.list ≡ true → is_bi b l.list m.list ≡ false
-  unfolding is_bi
-  same e = and_right (l.list.used && m.list.used) _ (ap not e)
-
   module _ (c : Component) (y x : ℕ) where
     first_one : is_bi b l.list m.list ≡ false → cond l.list.used (list_sample b l c y x) (list_sample b m c y x) ≡ first_sample b l m c y x
     unfolding first_sample
@@ -89,11 +91,11 @@ module _ (b : EvcBlock) (l m : RefPicList) where
             go : (t v : Bool) → l.list.used ≡ t → m.list.used ≡ v → (t || v) ≡ true → (t && v) ≡ false → Left b₀ b₁
             go true true u w s k = absurd (subst T k tt)
             go true false u w s k =
-                let r = stands u (not_both n) in
+                let r = stands u (not_both _ _ _ n) in
                 (f₀ ∙ second u _ _ ∙ r.0, f₁ ∙ second u _ _ ∙ list_unused b m a₁ w ∙ r.1)
             go false true u w s k = (
-              f₀ ∙ first u _ _ ∙ list_used b m a₀ w ∙ ap (with_samples b (list_sample b m)) (e₀ ∙ list_unused b l p u) ∙ samples_ext b _ _ p (λ c y x ly lx. sym (cond-false _ _ _ u) ∙ first_one c y x (not_both n)),
-              f₁ ∙ first u _ _ ∙ e₁ ∙ kept (not_both n),
+              f₀ ∙ first u _ _ ∙ list_used b m a₀ w ∙ ap (with_samples b (list_sample b m)) (e₀ ∙ list_unused b l p u) ∙ samples_ext b _ _ p (λ c y x ly lx. sym (cond-false _ _ _ u) ∙ first_one c y x (not_both _ _ _ n)),
+              f₁ ∙ first u _ _ ∙ e₁ ∙ kept (not_both _ _ _ n),
             )
             go false false u w s k = absurd (subst T (sym s) tt)
 

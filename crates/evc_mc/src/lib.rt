@@ -10,7 +10,7 @@ ghost use Rattle.evc_pick.specs.declared.PredBlock.TheVariants.{First, Second};
 ghost use Rattle.evc_mc.specs.Block.{Component, with_samples, list_sample, first_sample, is_bi, average, pred_len};
 ghost use Rattle.evc_mc.specs.Block.{planes_short, list_short, poc_exceeds, list_exceeds, mc2_code, list_moved, answer_of, mc2_answer, mc2_first, mc2_second};
 ghost use Rattle.evc_mc.specs.Lent.{list_of};
-ghost use Rattle.evc_mc.specs.Inner.{ListExamined, with_list, block_sample, RowSmall, BlockSmall};
+ghost use Rattle.evc_mc.specs.Inner.{ListExamined, Accepted, with_list, block_sample, RowSmall, BlockSmall};
 
 use evc_clip::EvcMoved;
 use evc_def::{Block, EvcBlock, EvcMv, MAX_POC, Picture, QpelPlace, Refusal};
@@ -265,7 +265,7 @@ fn predict_lists(
     pred1: &mut [u16],
 )
     requires gmv_values { (gmv0 ≡ clipped_place b.given l0.now.list.mv) × (gmv1 ≡ clipped_place b.given l1.now.list.mv) }
-    requires accepted { mc2_code b.given (list_of l0.now) (list_of l1.now) pred0.old pred1.old ≡ 0 }
+    requires accepted { Accepted b.given (list_of l0.now) (list_of l1.now) pred0.old pred1.old }
     ensures pred0_after { pred0.new ≡ with_samples b.given (first_sample b.given (list_of l0.now) (list_of l1.now)) pred0.old }
     ensures pred1_after { let samples = list_sample b.given (list_of l1.now) in
         pred1.new ≡ cond (is_bi b.given l0.now.list l1.now.list) (with_samples b.given samples pred1.old) pred1.old }
