@@ -1,7 +1,7 @@
 -- What the checks leave: an accepted block's sides, and of each list in use its three planes. Assumes nothing.
 use mathlib.Core.Bool.{Bool, true, false, not, ◌&&◌, ◌||◌}
-use mathlib.Core.List.{List}
-use mathlib.Core.Path.{◌≡◌, refl, sym, subst, ◌∙◌}
+use mathlib.Core.List.{List, [], ◌∷◌}
+use mathlib.Core.Path.{◌≡◌, refl, sym, ap, subst, ◌∙◌}
 use Prim.Native.Nat.{ℕ, ◌*◌, ◌≤◌}
 use native.Mathlib.Omega.{arith}
 use native.Mathlib.Nat.{mul_comm}
@@ -9,20 +9,21 @@ use lib.Dec.{T, ltb, eqb, eqb→eq}
 use lib.ListN.{length}
 use borrow.Author.Tests.{ltb-false, le-ltb, not-false}
 use mathlib.Core.Logic.{⊎_elim}
+use Rattle.std.proofs.lemmas.Bool.{and_from, or_from}
 use Rattle.evc_int.proofs.Bools.{both_true, all_true, none_true, and_false_right}
 use Rattle.evc_def.specs.Blocks.{is_block_side, is_inside, bad_picture, bad_block}
-use Rattle.evc_def.specs.Codes.{first_of, block_checks}
+use Rattle.evc_def.specs.Codes.{◌when◌, first_of, block_checks}
 use Rattle.evc_def.specs.declared.EvcBlock.{EvcBlock}
 use Rattle.evc_def.specs.declared.QpelPlace.{QpelPlace}
-use Rattle.evc_def.proofs.Codes.{accepted, passed, none, both_accepted, or_yes}
+use Rattle.evc_def.proofs.Codes.{accepted, passed, none, goes_on, both_accepted, or_yes}
 use Rattle.evc_def.proofs.Blocks.{allowed_block}
 use Rattle.evc_plane.specs.Planes.{side_of, plane_len}
 use Rattle.evc_plane.specs.declared.PlaneType.{PlaneType}
 use Rattle.evc_plane.specs.declared.PlaneType.TheVariants.{Y, UV}
 use Rattle.evc_clip.specs.Clip.{clipped_place}
 use Rattle.evc_interp.specs.Prediction.{is_side, window_exceeds, mc_plane_code}
-use Rattle.evc_mc.specs.Block.{RefPicList, Component, luma, cb, cr, type_of, plane_of, width_of, height_of, component_exceeds, list_short, list_exceeds, pred_len, mc2_code}
-use Rattle.evc_mc.specs.Inner.{Examined, ListExamined}
+use Rattle.evc_mc.specs.Block.{RefPicList, Component, luma, cb, cr, type_of, plane_of, width_of, height_of, component_exceeds, list_short, poc_exceeds, list_exceeds, pred_len, mc2_code}
+use Rattle.evc_mc.specs.Inner.{Examined, ListExamined, Accepted}
 
 -- ---- the block
 
@@ -69,16 +70,10 @@ unfolding mc_plane_code
 plane_accepted b t gmv s d e x r =
     let z = sides b e in
     passed _ _ _ z.picture
-    ∙ passed _ _ _ (both (is_side t (side_of t b.w)) (is_side t (side_of t b.h)) (plane_side t b.w z.w_side) (plane_side t b.h z.h_side))
-    ∙ passed _ _ _ (neither (ltb (length s) (plane_len t b.pic_w b.pic_h)) (ltb (length d) (side_of t b.w * side_of t b.h)) (le-ltb _ _ x.long) (le-ltb (length d) (side_of t b.w * side_of t b.h) (omega (arith, mul_comm (side_of t b.w) (side_of t b.h)))))
+    ∙ passed _ _ _ (ap not (and_from (is_side t (side_of t b.w)) (is_side t (side_of t b.h)) (plane_side t b.w z.w_side) (plane_side t b.h z.h_side)))
+    ∙ passed _ _ _ (or_from (ltb (length s) (plane_len t b.pic_w b.pic_h)) (ltb (length d) (side_of t b.w * side_of t b.h)) (le-ltb _ _ x.long) (le-ltb (length d) (side_of t b.w * side_of t b.h) (omega (arith, mul_comm (side_of t b.w) (side_of t b.h)))))
     ∙ passed _ _ _ x.small
     ∙ none
-  where
-    both : (p q : Bool) → p ≡ true → q ≡ true → not (p && q) ≡ false
-    both p q e f = rw (e, f)
-
-    neither : (p q : Bool) → p ≡ false → q ≡ false → (p || q) ≡ false
-    neither p q e f = rw (e, f)
 
 -- ---- a list
 
@@ -111,17 +106,20 @@ list_examined b l gmv e f p u c =
       small = subst (λ (g : QpelPlace). window_exceeds (type_of c) b.pic_w b.pic_h g (width_of b c) (height_of b c) (plane_of c l) ≡ false) (sym p) (list_small b l u f c);
     }
 
--- ---- an accepted call
+-- ---- a call whose block is allowed
 
-pub record Accepted (b : EvcBlock) (l m : RefPicList) (p q : List ℕ) : Type 0 where
-  pub block : first_of (block_checks b) ≡ 0
-  pub some_used : (l.list.used || m.list.used) ≡ true
-  pub l_short : list_short b l ≡ false
-  pub m_short : list_short b m ≡ false
-  pub p_long : pred_len ≤ length p
-  pub q_long : pred_len ≤ length q
-  pub l_exceeds : list_exceeds b l ≡ false
-  pub m_exceeds : list_exceeds b m ≡ false
+pub code_is : (b : EvcBlock) (l m : RefPicList) (p q : List ℕ) → first_of (block_checks b) ≡ 0
+    → mc2_code b l m p q
+    ≡ first_of
+    (3 when not (l.list.used || m.list.used)
+    ∷ 4 when (list_short b l || list_short b m || ltb (length p) pred_len || ltb (length q) pred_len)
+    ∷ 5 when (poc_exceeds l.list || poc_exceeds m.list)
+    ∷ 6 when (list_exceeds b l || list_exceeds b m)
+    ∷ [])
+unfolding mc2_code
+code_is b l m p q e = goes_on 0 (block_checks b) _ tt e
+
+-- ---- an accepted call
 
 pub accepts : (b : EvcBlock) (l m : RefPicList) (p q : List ℕ) → mc2_code b l m p q ≡ 0 → Accepted b l m p q
 unfolding mc2_code

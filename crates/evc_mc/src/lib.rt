@@ -5,14 +5,17 @@ ghost use Rattle.evc_int.specs.Lists.{with_row};
 ghost use Rattle.evc_def.specs.Places.{is_same};
 ghost use Rattle.evc_def.specs.Refusals.{code_of};
 ghost use Rattle.evc_clip.specs.Clip.{clipped_place};
+ghost use Rattle.evc_pick.specs.Inner.{by_block};
+ghost use Rattle.evc_pick.specs.declared.PredBlock.TheVariants.{First, Second};
 ghost use Rattle.evc_mc.specs.Block.{Component, with_samples, list_sample, first_sample, is_bi, average, pred_len};
 ghost use Rattle.evc_mc.specs.Block.{planes_short, list_short, poc_exceeds, list_exceeds, mc2_code, list_moved, answer_of, mc2_answer, mc2_first, mc2_second};
 ghost use Rattle.evc_mc.specs.Lent.{list_of};
-ghost use Rattle.evc_mc.specs.Inner.{ListExamined, with_list, block_sample, RowSmall, BlockSmall};
+ghost use Rattle.evc_mc.specs.Inner.{ListExamined, Accepted, with_list, block_sample, RowSmall, BlockSmall};
 
 use evc_clip::EvcMoved;
 use evc_def::{Block, EvcBlock, EvcMv, MAX_POC, Picture, QpelPlace, Refusal};
 use evc_interp::Window;
+use evc_pick::PredBlock;
 use evc_plane::PlaneType;
 
 // A list of a block: whether it is in use, its vector, and its picture's order count.
@@ -22,6 +25,15 @@ pub struct EvcList {
     pub used: bool,
     pub mv: EvcMv,
     pub poc: u32,
+}
+
+impl EvcList {
+    // The block that list 0 leaves empty: the second prediction goes there.
+    fn leaves_empty(self) -> PredBlock
+        ensures { result ≡ cond self.used Second First }
+    {
+        if self.used { PredBlock::Second } else { PredBlock::First }
+    }
 }
 
 // What clipping did to each list's vector.
@@ -88,6 +100,7 @@ pub struct RefPicList<'a> {
 }
 
 impl RefPicList<'_> {
+    #[tactic(auto, unfolding(crate::specs::Block::list_short))]
     fn is_short(&self, b: Block) -> bool
         ensures { result ≡ list_short b.given (list_of self.now) }
     {
@@ -130,12 +143,12 @@ impl RefPicList<'_> {
     }
 
     // The three planes, if the list is in use, to the block that is picked.
-    fn predict(&self, b: Block, gmv: QpelPlace, pred0: &mut [u16], pred1: &mut [u16], second: bool)
+    fn predict(&self, b: Block, gmv: QpelPlace, pred0: &mut [u16], pred1: &mut [u16], block: PredBlock)
         requires gmv_value { gmv ≡ clipped_place b.given self.now.list.mv }
         requires list_examined { ListExamined b.given gmv (list_of self.now) }
         requires pred_len_in_bounds { (pred_len ≤ length pred0.old) × (pred_len ≤ length pred1.old) }
-        ensures pred0_after { pred0.new ≡ cond second pred0.old (with_list b.given (list_of self.now) pred0.old) }
-        ensures pred1_after { pred1.new ≡ cond second (with_list b.given (list_of self.now) pred1.old) pred1.old }
+        ensures pred0_after { pred0.new ≡ by_block block (with_list b.given (list_of self.now) pred0.old) pred0.old }
+        ensures pred1_after { pred1.new ≡ by_block block pred1.old (with_list b.given (list_of self.now) pred1.old) }
     {
         if !self.list.used {
             return;
@@ -148,7 +161,7 @@ impl RefPicList<'_> {
         let chroma = evc_interp::position_of(PlaneType::UV, pic, self.list.mv, gmv);
         let offset_u = evc_def::cu_dim_offset(1);
         let offset_v = evc_def::cu_dim_offset(2);
-        evc_pick::predict_component(PlaneType::Y, &luma, w, h, y, pred0, pred1, second, 0);
+        evc_pick::predict_component(PlaneType::Y, &luma, w, h, y, pred0, pred1, block, 0);
         evc_pick::predict_component(
             PlaneType::UV,
             &chroma,
@@ -157,7 +170,7 @@ impl RefPicList<'_> {
             u,
             pred0,
             pred1,
-            second,
+            block,
             offset_u,
         );
         evc_pick::predict_component(
@@ -168,12 +181,13 @@ impl RefPicList<'_> {
             v,
             pred0,
             pred1,
-            second,
+            block,
             offset_v,
         );
     }
 
     // A list that is not in use has no report.
+    #[tactic(auto, unfolding(crate::specs::Block::list_moved))]
     fn moved(&self, b: Block) -> EvcMoved
         ensures { result ≡ list_moved b.given self.now.list }
     {
@@ -185,6 +199,7 @@ impl RefPicList<'_> {
 }
 
 // 3 to 6, of a block that is allowed.
+#[tactic(auto, using(crate::proofs::Checks::code_is), unfolding(evc_def::specs::Codes::first_of))]
 fn check_lists(
     b: Block,
     l0: &RefPicList,
@@ -214,15 +229,16 @@ fn check_lists(
 
 // ---- two predictions
 
-// n samples of both blocks from an offset on: the first block gets the average. By index: of what a zip over `iter_mut` wrote, a
-// proof knows the length alone.
+// n samples of both blocks from an offset on: the first block gets the average. `enumerate` and no zip: of what a zip over
+// `iter_mut` wrote, a proof knows the length alone.
 fn average_plane(pred0: &mut [u16], pred1: &[u16], offset: usize, n: usize)
     requires n_in_bounds { (offset + n ≤ length pred0.old) × (offset + n ≤ length pred1.now) }
     requires row_small { RowSmall pred0.old offset n × RowSmall pred1.now offset n }
     ensures { pred0.new ≡ with_row pred0.old offset n (λ (i : ℕ). average (get_or pred0.old (offset + i) 0) (get_or pred1.now (offset + i) 0)) }
 {
-    for i in 0..n {
-        pred0[offset + i] = (pred0[offset + i] + pred1[offset + i] + 1) >> 1;
+    let second = &pred1[offset..offset + n];
+    for (i, sample) in pred0[offset..offset + n].iter_mut().enumerate() {
+        *sample = (*sample + second[i] + 1) >> 1;
     }
 }
 
@@ -263,18 +279,18 @@ fn predict_lists(
     pred1: &mut [u16],
 )
     requires gmv_values { (gmv0 ≡ clipped_place b.given l0.now.list.mv) × (gmv1 ≡ clipped_place b.given l1.now.list.mv) }
-    requires accepted { mc2_code b.given (list_of l0.now) (list_of l1.now) pred0.old pred1.old ≡ 0 }
+    requires accepted { Accepted b.given (list_of l0.now) (list_of l1.now) pred0.old pred1.old }
     ensures pred0_after { pred0.new ≡ with_samples b.given (first_sample b.given (list_of l0.now) (list_of l1.now)) pred0.old }
     ensures pred1_after { let samples = list_sample b.given (list_of l1.now) in
         pred1.new ≡ cond (is_bi b.given l0.now.list l1.now.list) (with_samples b.given samples pred1.old) pred1.old }
 {
     let both = l0.list.used & l1.list.used;
-    l0.predict(b, gmv0, pred0, pred1, false);
+    l0.predict(b, gmv0, pred0, pred1, PredBlock::First);
     // Identical motion: list 0 alone stands.
     if both & same_motion(l0.list, gmv0, l1.list, gmv1) {
         return;
     }
-    l1.predict(b, gmv1, pred0, pred1, l0.list.used);
+    l1.predict(b, gmv1, pred0, pred1, l0.list.leaves_empty());
     if both {
         average_block(b, pred0, pred1);
     }

@@ -14,6 +14,7 @@ use Rattle.evc_def.proofs.Codes.{stops}
 use Rattle.evc_mc.specs.Block.{RefPicList, with_samples, list_sample, first_sample, is_bi, mc2_code, mc2_first, mc2_second}
 use Rattle.evc_mc.specs.Lent.{list_of}
 use Rattle.evc_mc.proofs.Answers.{silent, reports}
+use Rattle.evc_mc.proofs.Checks.{accepts}
 use Rattle.evc_mc.proofs.evc_mc2.Goals as goal
 
 module _ (b : EvcBlock) (l m : RefPicList) (p q : List ℕ) where
@@ -49,6 +50,10 @@ returns-in_err-check_lists c =
     let e = (simp c.in_ok-b.ensures.value at c.in_err-check_lists.ensures) in
     let same = untouched a.block l m a.pred0.now a.pred1.now _ e (not_0 _) in
     rw (p.1, p.2) (record { result_value = silent a.block a.l0.now.list a.l1.now.list _ _ e (not_0 _) _ refl; pred0_after = same.0; pred1_after = same.1 })
+
+pub predict_lists-requires-clause-accepted : goal.predict_lists-requires-clause-accepted
+predict_lists-requires-clause-accepted c =
+    accepts _ (list_of c.args.l0.now) (list_of c.args.l1.now) _ _ (sym c.in_ok-check_lists.ensures)
 
 pub returns : goal.returns
 returns c =

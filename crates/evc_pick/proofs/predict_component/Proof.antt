@@ -1,7 +1,6 @@
 -- `predict_component` meets its contract: a walk of its MIR, by hand. All that it knows of `pick` and `evc_interp::predict` is that each meets its contract.
 -- Both blocks are lent again to `pick` for a lifetime of their own, at a half each of the token, and the part that comes back goes to `predict`. Once that has ended the part, `pick`'s clause says how both loans ended, and both blocks come back.
 use mathlib.Core.Path.{◌≡◌, refl, sym, ◌∙◌, ap, subst}
-use mathlib.Core.Bool.{Bool, true, false, cond}
 use Prim.Native.Nat.{ℕ, ◌+◌, ◌*◌, ◌<◌, ◌≤◌, ◌^◌}
 use native.Mathlib.Omega.{arith}
 use mathlib.Core.List.{[], ◌∷◌, List, ◌++◌}
@@ -12,7 +11,7 @@ use base.Share
 use base.Logic.{SProp, ent, sep, ex, emp, id⊢, ex_e, snd∗}
 use base.Fml.{Lft, GName, Share, Fml, ftrue, fsep, flft, fdead}
 use mir.Syntax.{named, w64}
-use mir.Val.{Val, vunit, vbool, vint, vptr}
+use mir.Val.{Val, vunit, vint, vptr}
 use prog.Memory.{Memory}
 use prog.Routine.{Routine}
 use prog.Wp.{Calls, Loops, WpFn}
@@ -28,8 +27,8 @@ use types.Tokens.{lft_new, lft_end}
 use sound.WpLaws.{FmC}
 use denote.RattleType.{owns}
 use denote.Laws.{Is, shows}
-use denote.Plain.{uint_vals, uint_Tells, bool_vals, bool_Tells}
-use denote.Builtin.{u16, usize, bool, unit}
+use denote.Plain.{uint_vals, uint_Tells}
+use denote.Builtin.{u16, usize, unit}
 use denote.Ref.{Bor, MutBor, ShrRef, shr_vals, shr_Tells, shr_Lawful}
 use denote.Slice.{MutSlice, ShrSlice, Room, shr_slice_vals, mut_slice_vals, mut_slice_Tells, shr_slice_Tells, shr_slice_Lawful}
 use denote.Steps.{only, peeks, heard, nothing}
@@ -52,7 +51,11 @@ use Rattle.evc_plane.proofs.PlaneType.TheLaws as K'
 use Rattle.evc_interp.specs.declared.Position.{Position}
 use Rattle.evc_interp.specs.Inner.{Readable, sample_from}
 use Rattle.evc_interp.specs.contracts.Position as P
-use Rattle.evc_pick.specs.Inner.{with_tail, ends_as, both_end, once_ended}
+use Rattle.evc_pick.specs.contracts.PredBlock as B
+use Rattle.evc_pick.proofs.PredBlock.TheLaws as B'
+use Rattle.evc_pick.specs.declared.PredBlock.{PredBlock}
+use Rattle.evc_pick.specs.declared.PredBlock.TheVariants.{First, Second}
+use Rattle.evc_pick.specs.Inner.{by_block, with_tail, ends_as, both_end, once_ended}
 use Rattle.evc_pick.proofs.Again.{LentSlice, named_as, at_end, lends_slice_again, slice_comes_back}
 use Rattle.evc_pick.proofs.Ends.{ended}
 use Rattle.evc_pick.proofs.Walk.{needs_both}
@@ -67,7 +70,7 @@ use Rattle.evc_pick.proofs.predict_component.Statement.{statement}
 use Rattle.evc_pick.proofs.predict_component.Code as code
 
 abbrev stayed : Stays component.ended.signature.params component.ended.kept
-stayed = (stay_dropped (plain (λ _. K.the_row)) yes, (stay_dropped (shr_ref_to (0 ∷ []) tt (plain (λ _. P.the_row))) yes, (stay_dropped (plain (λ _. usize)) yes, (stay_dropped (plain (λ _. usize)) yes, (stay_dropped (shr_slice_of (0 ∷ []) tt (plain (λ _. u16))) yes, (stay_slice (1 ∷ []) tt (plain (λ _. u16)), (stay_slice (1 ∷ []) tt (plain (λ _. u16)), (stay_dropped (plain (λ _. bool)) yes, (stay_dropped (plain (λ _. usize)) yes, tt)))))))))
+stayed = (stay_dropped (plain (λ _. K.the_row)) yes, (stay_dropped (shr_ref_to (0 ∷ []) tt (plain (λ _. P.the_row))) yes, (stay_dropped (plain (λ _. usize)) yes, (stay_dropped (plain (λ _. usize)) yes, (stay_dropped (shr_slice_of (0 ∷ []) tt (plain (λ _. u16))) yes, (stay_slice (1 ∷ []) tt (plain (λ _. u16)), (stay_slice (1 ∷ []) tt (plain (λ _. u16)), (stay_dropped (plain (λ _. B.the_row)) yes, (stay_dropped (plain (λ _. usize)) yes, tt)))))))))
 
 -- ---- the lists
 -- a block predicted to the elements from k on
@@ -75,34 +78,34 @@ tail_block : (xs zs : List ℕ) (k n h : ℕ) (f : ℕ → ℕ → ℕ) → k + 
 tail_block xs zs k n h f le e = ap (λ (l : List ℕ). take k xs ++ l) (e ∙ sym (with_block-part (drop-list k xs) 0 n h f (omega (arith, length-drop k xs, le)))) ∙ with_block-part xs k n h f le
 
 module _ (x y : MutBor (List ℕ)) (k n h : ℕ) (le₀ : k + h * n ≤ length x.now) (le₁ : k + h * n ≤ length y.now) where
-  start : (s : Bool) → k ≤ length (cond s y x).now
-  start true = omega (arith, le₁)
-  start false = omega (arith, le₀)
+  start : (s : PredBlock) → k ≤ length (by_block s x y).now
+  start Second = omega (arith, le₁)
+  start First = omega (arith, le₀)
 
-  enough : (s : Bool) → h * n ≤ length (drop-list k (cond s y x).now)
-  enough true = omega (arith, le₁, length-drop k y.now)
-  enough false = omega (arith, le₀, length-drop k x.now)
+  enough : (s : PredBlock) → h * n ≤ length (drop-list k (by_block s x y).now)
+  enough Second = omega (arith, le₁, length-drop k y.now)
+  enough First = omega (arith, le₀, length-drop k x.now)
 
   module _ (f : ℕ → ℕ → ℕ) where
-    abbrev last₀ : Bool → List ℕ
-    last₀ s = cond s x.now (with_block x.now k n n h f)
+    abbrev last₀ : PredBlock → List ℕ
+    last₀ s = by_block s (with_block x.now k n n h f) x.now
 
-    abbrev last₁ : Bool → List ℕ
-    last₁ s = cond s (with_block y.now k n n h f) y.now
+    abbrev last₁ : PredBlock → List ℕ
+    last₁ s = by_block s y.now (with_block y.now k n n h f)
 
-    lengths : (s : Bool) → (length (last₀ s) ≡ length x.now) × (length (last₁ s) ≡ length y.now)
-    lengths true = (refl, length-with_block y.now k n n h f)
-    lengths false = (length-with_block x.now k n n h f, refl)
+    lengths : (s : PredBlock) → (length (last₀ s) ≡ length x.now) × (length (last₁ s) ≡ length y.now)
+    lengths Second = (refl, length-with_block y.now k n n h f)
+    lengths First = (length-with_block x.now k n n h f, refl)
 
-    lasts_are : (s : Bool) (zs : List ℕ) → zs ≡ with_block (drop-list k (cond s y x).now) 0 n n h f
-        → (cond s x.now (with_tail x.now k zs) ≡ last₀ s) × (cond s (with_tail y.now k zs) y.now ≡ last₁ s)
-    lasts_are true zs e = (refl, tail_block y.now zs k n h f le₁ e)
-    lasts_are false zs e = (tail_block x.now zs k n h f le₀ e, refl)
+    lasts_are : (s : PredBlock) (zs : List ℕ) → zs ≡ with_block (drop-list k (by_block s x y).now) 0 n n h f
+        → (by_block s (with_tail x.now k zs) x.now ≡ last₀ s) × (by_block s y.now (with_tail y.now k zs) ≡ last₁ s)
+    lasts_are Second zs e = (refl, tail_block y.now zs k n h f le₁ e)
+    lasts_are First zs e = (tail_block x.now zs k n h f le₀ e, refl)
 
 -- the block that is picked, under the names that both are lent by, is the one that is picked
-picked_again : (x x' y y' : MutBor (List ℕ)) → x'.now ≡ x.now → y'.now ≡ y.now → (s : Bool) → (cond s y' x').now ≡ (cond s y x).now
-picked_again x x' y y' e f true = f
-picked_again x x' y y' e f false = e
+picked_again : (x x' y y' : MutBor (List ℕ)) → x'.now ≡ x.now → y'.now ≡ y.now → (s : PredBlock) → (by_block s x' y').now ≡ (by_block s x y).now
+picked_again x x' y y' e f Second = f
+picked_again x x' y y' e f First = e
 
 -- ---- the contracts that the proof cites
 module _ {M : Type 1} {𝓤 : Ura M} (𝓛 : Logic 𝓤) (mem : Memory → SProp 𝓤) (run : Routine → Fun 𝓤) where
@@ -113,7 +116,7 @@ module _ {M : Type 1} {𝓤 : Ura M} (𝓛 : Logic 𝓤) (mem : Memory → SProp
   Predict = triple_of 𝓛 predict.signature (predict.spec 𝓛 mem run)
 
 module _ {M : Type 1} {𝓤 : Ura M} (𝓛 : Logic 𝓤) (mem : Memory → SProp 𝓤) (run : Routine → Fun 𝓤) (κ₀ κ : Lft) (q₀ q : Share)
-    (t : PlaneType) (p : Bor Position) (w h : ℕ) (plane : Bor (List ℕ)) (x y : MutBor (List ℕ)) (s : Bool) (k : ℕ) (room₀ : Room u16 (length x.now)) (room₁ : Room u16 (length y.now))
+    (t : PlaneType) (p : Bor Position) (w h : ℕ) (plane : Bor (List ℕ)) (x y : MutBor (List ℕ)) (s : PredBlock) (k : ℕ) (room₀ : Room u16 (length x.now)) (room₁ : Room u16 (length y.now))
     (readable : Readable t p.now w h plane.now) (le₀ : k + h * w ≤ length x.now) (le₁ : k + h * w ≤ length y.now) where
   open 𝓛 use {H, A}
 
@@ -124,6 +127,9 @@ module _ {M : Type 1} {𝓤 : Ura M} (𝓛 : Logic 𝓤) (mem : Memory → SProp
   abbrev vp : Val
   vp = vptr p.ref_ptr.0 p.ref_ptr.1
 
+  abbrev vs : Val
+  vs = EL.val B.the_type B'.the_laws s
+
   abbrev sample : ℕ → ℕ → ℕ
   sample = sample_from t p.now plane.now
 
@@ -133,7 +139,7 @@ module _ {M : Type 1} {𝓤 : Ura M} (𝓛 : Logic 𝓤) (mem : Memory → SProp
 
   -- what numbers and the plane own
   abbrev Numbers : Item 𝓤
-  Numbers = ‵ (bool.own_val s (vbool s ∷ [])) ⊛ ‵ (usize.own_val k (vint w64 k ∷ []))
+  Numbers = ‵ ((B.the_row).own_val s (vs ∷ [])) ⊛ ‵ (usize.own_val k (vint w64 k ∷ []))
 
   -- ---- both blocks are lent again, and come back
   module _ (α : ℕ) (δ : GName × GName) where
@@ -177,11 +183,11 @@ module _ {M : Type 1} {𝓤 : Ura M} (𝓛 : Logic 𝓤) (mem : Memory → SProp
   -- ---- `pick`
   module _ (α : ℕ) (δ : GName × GName) where
     abbrev to_pick : (Pick 𝓛 mem run).Ghost
-    to_pick = (((α ∷ [], tt), (full_share, tt), tt, (x' α δ, (y' α δ, (s, (k, tt)))), (mut_slice_vals x, (mut_slice_vals y, (vbool s ∷ [], (vint w64 k ∷ [], tt))))), tt)
+    to_pick = (((α ∷ [], tt), (full_share, tt), tt, (x' α δ, (y' α δ, (s, (k, tt)))), (mut_slice_vals x, (mut_slice_vals y, (vs ∷ [], (vint w64 k ∷ [], tt))))), tt)
 
-    goes_pick : ent 𝓤 (⋆ 𝓛 (‵ (flft (α ∷ []) full_share) ∷ Loans α δ ∷ ‵ (bool.own_val s (vbool s ∷ [])) ∷ ‵ (usize.own_val k (vint w64 k ∷ [])) ∷ [])) ((Pick 𝓛 mem run).pre to_pick)
+    goes_pick : ent 𝓤 (⋆ 𝓛 (‵ (flft (α ∷ []) full_share) ∷ Loans α δ ∷ ‵ ((B.the_row).own_val s (vs ∷ [])) ∷ ‵ (usize.own_val k (vint w64 k ∷ [])) ∷ [])) ((Pick 𝓛 mem run).pre to_pick)
     goes_pick =
-        qed 𝓛 (‵ (flft (α ∷ []) full_share) ∷ Loans α δ ∷ ‵ (bool.own_val s (vbool s ∷ [])) ∷ ‵ (usize.own_val k (vint w64 k ∷ [])) ∷ []) ∵
+        qed 𝓛 (‵ (flft (α ∷ []) full_share) ∷ Loans α δ ∷ ‵ ((B.the_row).own_val s (vs ∷ [])) ∷ ‵ (usize.own_val k (vint w64 k ∷ [])) ∷ []) ∵
         says ! (start (x' α δ) (y' α δ) k w h le₀ le₁ s) $ nothing ! $ move ! (1 ∷ 0 ∷ []) $ join ! $ frame ! $ split ! $
         -- [both loans; the choice; the offset]
         nothing ! $ move ! (4 ∷ 0 ∷ []) $ fjoin ! $ move ! (3 ∷ 0 ∷ []) $ fjoin ! $ move ! (2 ∷ 0 ∷ []) $ fjoin ! $ move ! (1 ∷ 0 ∷ []) $ fjoin ! $ done !
@@ -190,7 +196,7 @@ module _ {M : Type 1} {𝓤 : Ura M} (𝓛 : Logic 𝓤) (mem : Memory → SProp
     Both = both_end (x' α δ) (y' α δ) s k
 
     abbrev Shown : MutBor (List ℕ) → Type 0
-    Shown r = r.now ≡ drop-list k (cond s (y' α δ) (x' α δ)).now
+    Shown r = r.now ≡ drop-list k (by_block s (x' α δ) (y' α δ)).now
 
     abbrev Told : MutBor (List ℕ) → SProp 𝓤
     Told r = ensured 𝓛 picker.ended (picker.clauses 𝓛 mem run) (α ∷ [], tt) (x' α δ, (y' α δ, (s, (k, tt)))) tt r
@@ -223,7 +229,7 @@ module _ {M : Type 1} {𝓤 : Ura M} (𝓛 : Logic 𝓤) (mem : Memory → SProp
     Said r zs = zs ≡ with_block r.now 0 w w h sample
 
     lasts_of : (r : MutBor (List ℕ)) (zs : List ℕ) → Shown r → Said r zs
-        → (cond s x.now (with_tail x.now k zs) ≡ last₀ x y k w h le₀ le₁ sample s) × (cond s (with_tail y.now k zs) y.now ≡ last₁ x y k w h le₀ le₁ sample s)
+        → (by_block s (with_tail x.now k zs) x.now ≡ last₀ x y k w h le₀ le₁ sample s) × (by_block s y.now (with_tail y.now k zs) ≡ last₁ x y k w h le₀ le₁ sample s)
     lasts_of r zs shown e = lasts_are x y k w h le₀ le₁ sample s zs (e ∙ ap (λ (l : List ℕ). with_block l 0 w w h sample) (shown ∙ ap (drop-list k) (picked_again x (x' α δ) y (y' α δ) refl refl s)))
 
   -- ---- the whole
@@ -237,7 +243,7 @@ module _ {M : Type 1} {𝓤 : Ura M} (𝓛 : Logic 𝓤) (mem : Memory → SProp
   a = (t, (p, (w, (h, (plane, (x, (y, (s, (k, tt)))))))))
 
   abbrev vals : Vals component.signature κs
-  vals = (vt ∷ [], (vp ∷ [], (vint w64 w ∷ [], (vint w64 h ∷ [], (shr_slice_vals plane, (mut_slice_vals x, (mut_slice_vals y, (vbool s ∷ [], (vint w64 k ∷ [], tt)))))))))
+  vals = (vt ∷ [], (vp ∷ [], (vint w64 w ∷ [], (vint w64 h ∷ [], (shr_slice_vals plane, (mut_slice_vals x, (mut_slice_vals y, (vs ∷ [], (vint w64 k ∷ [], tt)))))))))
 
   abbrev Post : Val → SProp 𝓤
   Post = (walk_of 𝓛 component.ended stayed (component.clauses 𝓛 mem run)).post ((κs, qs, tt, a, vals), tt)
@@ -258,15 +264,15 @@ module _ {M : Type 1} {𝓤 : Ura M} (𝓛 : Logic 𝓤) (mem : Memory → SProp
 
   -- the walk: local 10 is the part; 11 and 12 are pred0 lent on, 13 and 14 pred1, 16 and 17 the part
   module _ (C : Calls 𝓤 H) (Λ : Loops 𝓤 H) (fm : FmC 𝓤 H 𝓛.laws C) (known_pick : Triple 𝓤 (C #pick) (Pick 𝓛 mem run)) (known_predict : Triple 𝓤 (C #predict) (Predict 𝓛 mem run)) where
-    walk : Is K.the_row t (EL.vals K.the_type K'.the_laws t) → Is (ShrRef (named 0) κ₀ P.the_row) p (shr_vals p) → w < 2 ^ 64 → h < 2 ^ 64 → Is (ShrSlice (named 0) κ₀ u16) plane (shr_slice_vals plane) → k < 2 ^ 64
+    walk : Is K.the_row t (EL.vals K.the_type K'.the_laws t) → Is (ShrRef (named 0) κ₀ P.the_row) p (shr_vals p) → w < 2 ^ 64 → h < 2 ^ 64 → Is (ShrSlice (named 0) κ₀ u16) plane (shr_slice_vals plane) → Is B.the_row s (EL.vals B.the_type B'.the_laws s) → k < 2 ^ 64
         → ent 𝓤 (on_entry 𝓛 component.signature κs qs a vals)
-        (WpFn 𝓤 H C Λ code.function (vt ∷ vp ∷ vint w64 w ∷ vint w64 h ∷ only (shr_slice_vals plane) ∷ only (mut_slice_vals x) ∷ only (mut_slice_vals y) ∷ vbool s ∷ vint w64 k ∷ []) Post)
-    walk gt gp fits_w fits_h gplane fits_k =
-        qed 𝓛 ((‵ (flft κ₀ q₀) ⊛ ‵ (flft κ q) ⊛ ‵ ftrue) ∷ ‵ (owns (K.the_row ∷ ShrRef (named 0) κ₀ P.the_row ∷ usize ∷ usize ∷ ShrSlice (named 0) κ₀ u16 ∷ MutSlice (named 1) κ u16 ∷ MutSlice (named 1) κ u16 ∷ bool ∷ usize ∷ []) a vals) ∷ []) ∵
+        (WpFn 𝓤 H C Λ code.function (vt ∷ vp ∷ vint w64 w ∷ vint w64 h ∷ only (shr_slice_vals plane) ∷ only (mut_slice_vals x) ∷ only (mut_slice_vals y) ∷ vs ∷ vint w64 k ∷ []) Post)
+    walk gt gp fits_w fits_h gplane gs fits_k =
+        qed 𝓛 ((‵ (flft κ₀ q₀) ⊛ ‵ (flft κ q) ⊛ ‵ ftrue) ∷ ‵ (owns (K.the_row ∷ ShrRef (named 0) κ₀ P.the_row ∷ usize ∷ usize ∷ ShrSlice (named 0) κ₀ u16 ∷ MutSlice (named 1) κ u16 ∷ MutSlice (named 1) κ u16 ∷ B.the_row ∷ usize ∷ []) a vals) ∷ []) ∵
         move ! (1 ∷ []) $ fsplit ! $ move ! (1 ∷ []) $ fsplit3 ! $ move ! (2 ∷ []) $ fsplit3 ! $ move ! (2 ∷ []) $ fsplit3 ! $ move ! (2 ∷ []) $ fsplit3 ! $ move ! (10 ∷ []) $ split3 ! $
         keep ! (12 ∷ 10 ∷ 11 ∷ 8 ∷ 9 ∷ 6 ∷ 7 ∷ 3 ∷ 4 ∷ 0 ∷ 1 ∷ []) $
         -- [the type; the position; the sides; the plane; both blocks; the choice; the offset; the plane's token; the blocks']
-        enter ! C Λ code.function (vt ∷ vp ∷ vint w64 w ∷ vint w64 h ∷ only (shr_slice_vals plane) ∷ only (mut_slice_vals x) ∷ only (mut_slice_vals y) ∷ vbool s ∷ vint w64 k ∷ []) _ $
+        enter ! C Λ code.function (vt ∷ vp ∷ vint w64 w ∷ vint w64 h ∷ only (shr_slice_vals plane) ∷ only (mut_slice_vals x) ∷ only (mut_slice_vals y) ∷ vs ∷ vint w64 k ∷ []) _ $
         alloc_all ! (λ l. pass_all ! refl (
           ((EL.lawful K.the_type K'.the_laws 𝓛 tt).typed t _ gt).0,
           (
@@ -275,7 +281,7 @@ module _ {M : Type 1} {𝓤 : Ura M} (𝓛 : Logic 𝓤) (mem : Memory → SProp
               (tt, record { fits = fits_w }),
               (
                 (tt, record { fits = fits_h }),
-                (((shr_slice_Lawful 𝓛 (named 0) κ₀ u16).typed plane (shr_slice_vals plane) gplane).0, ((tt, (tt, (record { fits = room₀.0 }, tt))), ((tt, (tt, (record { fits = room₁.0 }, tt))), ((tt, tt), ((tt, record { fits = fits_k }), tt))))),
+                (((shr_slice_Lawful 𝓛 (named 0) κ₀ u16).typed plane (shr_slice_vals plane) gplane).0, ((tt, (tt, (record { fits = room₀.0 }, tt))), ((tt, (tt, (record { fits = room₁.0 }, tt))), (((EL.lawful B.the_type B'.the_laws 𝓛 tt).typed s _ gs).0, ((tt, record { fits = fits_k }), tt))))),
               ),
             ),
           ),
@@ -306,8 +312,8 @@ module _ {M : Type 1} {𝓤 : Ura M} (𝓛 : Logic 𝓤) (mem : Memory → SProp
         move ! (7 ∷ []) $ feq_l ! (λ is_unit. lands_as ! (ap only is_unit) refl (tt, tt) $
         let e = lasts_of α δ r ws.1.1.1.1.1.0 shown said in let l' = lengths x y k w h le₀ le₁ sample s in
         move ! (0 ∷ 8 ∷ []) $ use2 𝓛 (‵ (Both α δ ws.1.1.1.1.1.0)) (ended 𝓛 r (Both α δ) ws.1.1.1.1.1.0) $ move ! (5 ∷ []) $ lft_end ! tt $ move ! (0 ∷ 8 ∷ 1 ∷ []) $
-        use3 𝓛 (later (‵ (Held κ (at_end 𝓛 u16 κ (α ∷ []) q x (cond s x.now (with_tail x.now k ws.1.1.1.1.1.0))) (mut_slice_vals x)) ⊛ ‵ (Held κ (at_end 𝓛 u16 κ (α ∷ []) q y (cond s (with_tail y.now k ws.1.1.1.1.1.0) y.now)) (mut_slice_vals y)) ⊛ ‵ (flft κ q)))
-        (come_back α δ (cond s x.now (with_tail x.now k ws.1.1.1.1.1.0)) (cond s (with_tail y.now k ws.1.1.1.1.1.0) y.now) (ap length e.0 ∙ l'.0) (ap length e.1 ∙ l'.1)) $ await ! tt $ split3 ! $
+        use3 𝓛 (later (‵ (Held κ (at_end 𝓛 u16 κ (α ∷ []) q x (by_block s (with_tail x.now k ws.1.1.1.1.1.0) x.now)) (mut_slice_vals x)) ⊛ ‵ (Held κ (at_end 𝓛 u16 κ (α ∷ []) q y (by_block s y.now (with_tail y.now k ws.1.1.1.1.1.0))) (mut_slice_vals y)) ⊛ ‵ (flft κ q)))
+        (come_back α δ (by_block s (with_tail x.now k ws.1.1.1.1.1.0) x.now) (by_block s y.now (with_tail y.now k ws.1.1.1.1.1.0)) (ap length e.0 ∙ l'.0) (ap length e.1 ∙ l'.1)) $ await ! tt $ split3 ! $
         sets ! (of_opd ! (unit_lit !)) refl (tt, tt) $ returns ! (look_at ! 0 refl) $ free_all ! refl $ keep ! (0 ∷ 1 ∷ 2 ∷ 6 ∷ []) $ by ! (exits α _ _ e.0 e.1)))))))))))))
 
 pub predict_component_spec : {M : Type 1} → statement M
@@ -319,15 +325,15 @@ predict_component_spec 𝓤 𝓛 𝓜 𝓡 wired =
       Goes-dropped 𝓛 2 (plain (λ _. K.the_row)) yes (λ κs x f. refl),
       (
         Goes-dropped 𝓛 2 (shr_ref_to (0 ∷ []) tt (plain (λ _. P.the_row))) yes (λ κs x f. refl),
-        (number, (number, (Goes-dropped 𝓛 2 (shr_slice_of (0 ∷ []) tt (plain (λ _. u16))) yes (λ κs x f. refl), (block, (block, (Goes-dropped 𝓛 2 (plain (λ _. bool)) yes (λ κs x f. refl), (number, tt))))))),
+        (number, (number, (Goes-dropped 𝓛 2 (shr_slice_of (0 ∷ []) tt (plain (λ _. u16))) yes (λ κs x f. refl), (block, (block, (Goes-dropped 𝓛 2 (plain (λ _. B.the_row)) yes (λ κs x f. refl), (number, tt))))))),
       ),
     )
     component.Key.name code.function (code.unfolded 𝓤 𝓛.H 𝓜 𝓡 wired)
-    (λ κs. (EL.vals K.the_type K'.the_laws, (shr_vals, (uint_vals w64, (uint_vals w64, (shr_slice_vals, (mut_slice_vals, (mut_slice_vals, (bool_vals, (uint_vals w64, tt))))))))))
-    (λ κs. (EL.tells K.the_type K'.the_laws, (shr_Tells (named 0) κs.0 P.the_row, (uint_Tells w64, (uint_Tells w64, (shr_slice_Tells (named 0) κs.0 u16, (mut_slice_Tells (named 1) κs.1.0 u16, (mut_slice_Tells (named 1) κs.1.0 u16, (bool_Tells, (uint_Tells w64, tt))))))))))
+    (λ κs. (EL.vals K.the_type K'.the_laws, (shr_vals, (uint_vals w64, (uint_vals w64, (shr_slice_vals, (mut_slice_vals, (mut_slice_vals, (EL.vals B.the_type B'.the_laws, (uint_vals w64, tt))))))))))
+    (λ κs. (EL.tells K.the_type K'.the_laws, (shr_Tells (named 0) κs.0 P.the_row, (uint_Tells w64, (uint_Tells w64, (shr_slice_Tells (named 0) κs.0 u16, (mut_slice_Tells (named 1) κs.1.0 u16, (mut_slice_Tells (named 1) κs.1.0 u16, (EL.tells B.the_type B'.the_laws, (uint_Tells w64, tt))))))))))
     (λ κs qs bounds a _ are.
     let x = a.1.1.1.1.1.0 in let y = a.1.1.1.1.1.1.0 in let k = a.1.1.1.1.1.1.1.1.0 in let n = a.1.1.1.0 * a.1.1.0 in
     needs_both 𝓤 (Readable a.0 a.1.0.now a.1.1.0 a.1.1.1.0 a.1.1.1.1.0.now) ((k + n ≤ length x.now) × (k + n ≤ length y.now)) _ (λ readable le.
     walk 𝓛 𝓜.mem 𝓡.returns κs.0 κs.1.0 qs.0 qs.1.0 a.0 a.1.0 a.1.1.0 a.1.1.1.0 a.1.1.1.1.0 x y a.1.1.1.1.1.1.1.0 k are.1.1.1.1.1.0.0.1 are.1.1.1.1.1.1.0.0.1 readable le.0 le.1
     𝓣.C 𝓣.Λ (framed 𝓤 𝓛.H 𝓜 𝓣) (pick-thm.met 𝓤 𝓛 𝓜 𝓡 (code.calls-evc_pick::pick 𝓡.env wired)) (predict-thm.met 𝓤 𝓛 𝓜 𝓡 (code.calls-evc_interp::predict 𝓡.env wired))
-    are.0 are.1.0 are.1.1.0.1 are.1.1.1.0.1 are.1.1.1.1.0 are.1.1.1.1.1.1.1.1.0.1))
+    are.0 are.1.0 are.1.1.0.1 are.1.1.1.0.1 are.1.1.1.1.0 are.1.1.1.1.1.1.1.0 are.1.1.1.1.1.1.1.1.0.1))

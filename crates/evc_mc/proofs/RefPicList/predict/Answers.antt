@@ -15,6 +15,9 @@ use Rattle.evc_interp.specs.Prediction.{predicted}
 use Rattle.evc_interp.specs.Inner.{position_of, Readable, sample_from}
 use Rattle.evc_interp.specs.declared.Position.{Position}
 use Rattle.evc_interp.proofs.Windows.{accepts, readable, predicts}
+use Rattle.evc_pick.specs.Inner.{by_block}
+use Rattle.evc_pick.specs.declared.PredBlock.{PredBlock}
+use Rattle.evc_pick.specs.declared.PredBlock.TheVariants.{First, Second}
 use Rattle.evc_mc.specs.Block.{RefPicList, Component, luma, cb, cr, type_of, plane_of, offset_of, width_of, height_of, with_component, with_samples, list_sample, pred_len}
 use Rattle.evc_mc.specs.Inner.{Examined, with_list}
 use Rattle.evc_mc.specs.Lent.{list_of}
@@ -23,10 +26,10 @@ use Rattle.evc_mc.proofs.Samples.{component_room, component_end}
 use Rattle.evc_mc.proofs.RefPicList.predict.Goals as goal
 
 module _ (b : EvcBlock) (l : RefPicList) where
-  unused : (second : Bool) (p0 p1 : List ℕ) → l.list.used ≡ false → (p0 ≡ cond second p0 (with_list b l p0)) × (p1 ≡ cond second (with_list b l p1) p1)
+  unused : (block : PredBlock) (p0 p1 : List ℕ) → l.list.used ≡ false → (p0 ≡ by_block block (with_list b l p0) p0) × (p1 ≡ by_block block p1 (with_list b l p1))
   unfolding with_list
-  unused true p0 p1 e = (refl, simp e)
-  unused false p0 p1 e = (simp e, refl)
+  unused Second p0 p1 e = (refl, simp e)
+  unused First p0 p1 e = (simp e, refl)
 
   module _ (gmv : QpelPlace) where
     -- a component from its position
@@ -66,17 +69,17 @@ module _ (b : EvcBlock) (l : RefPicList) where
           ∙ sym (ap (λ (t : Bool). cond t (with_samples b (list_sample b l) d) d) u)
 
       -- both blocks, by which is picked
-      done : (second : Bool) (o q : ℕ) (p0 p1 a0 a1 b0 b1 c0 c1 : List ℕ) → l.list.used ≡ true → o ≡ offset_of cb → q ≡ offset_of cr
-          → a0 ≡ cond second p0 (put luma 0 p0) → a1 ≡ cond second (put luma 0 p1) p1
-          → b0 ≡ cond second a0 (put cb o a0) → b1 ≡ cond second (put cb o a1) a1
-          → c0 ≡ cond second b0 (put cr q b0) → c1 ≡ cond second (put cr q b1) b1
-          → (c0 ≡ cond second p0 (with_list b l p0)) × (c1 ≡ cond second (with_list b l p1) p1)
-      done true o q p0 p1 a0 a1 b0 b1 c0 c1 u eo eq x0 x1 y0 y1 z0 z1 = (z0 ∙ y0 ∙ x0, three o q p1 a1 b1 c1 u eo eq x1 y1 z1)
-      done false o q p0 p1 a0 a1 b0 b1 c0 c1 u eo eq x0 x1 y0 y1 z0 z1 = (three o q p0 a0 b0 c0 u eo eq x0 y0 z0, z1 ∙ y1 ∙ x1)
+      done : (block : PredBlock) (o q : ℕ) (p0 p1 a0 a1 b0 b1 c0 c1 : List ℕ) → l.list.used ≡ true → o ≡ offset_of cb → q ≡ offset_of cr
+          → a0 ≡ by_block block (put luma 0 p0) p0 → a1 ≡ by_block block p1 (put luma 0 p1)
+          → b0 ≡ by_block block (put cb o a0) a0 → b1 ≡ by_block block a1 (put cb o a1)
+          → c0 ≡ by_block block (put cr q b0) b0 → c1 ≡ by_block block b1 (put cr q b1)
+          → (c0 ≡ by_block block (with_list b l p0) p0) × (c1 ≡ by_block block p1 (with_list b l p1))
+      done Second o q p0 p1 a0 a1 b0 b1 c0 c1 u eo eq x0 x1 y0 y1 z0 z1 = (z0 ∙ y0 ∙ x0, three o q p1 a1 b1 c1 u eo eq x1 y1 z1)
+      done First o q p0 p1 a0 a1 b0 b1 c0 c1 u eo eq x0 x1 y0 y1 z0 z1 = (three o q p0 a0 b0 c0 u eo eq x0 y0 z0, z1 ∙ y1 ∙ x1)
 
 pub returns-then-not-self : goal.returns-then-not-self
 returns-then-not-self c =
-    let a = c.args in let parts = unused a.b.given (list_of a.self.now) a.second a.pred0.now a.pred1.now c.if-not-self.true in record { pred0_after = parts.0; pred1_after = parts.1 }
+    let a = c.args in let parts = unused a.b.given (list_of a.self.now) a.block a.pred0.now a.pred1.now c.if-not-self.true in record { pred0_after = parts.0; pred1_after = parts.1 }
 
 pub predict_component-requires : goal.predict_component-requires
 predict_component-requires c =
@@ -101,6 +104,6 @@ predict_component-requires-3 c =
 
 pub returns : goal.returns
 returns c =
-    let a = c.args in let parts = done a.b.given (list_of a.self.now) a.gmv c.requires.gmv_value _ _ (simp (c.picture-pic.ensures.0, c.picture-pic.ensures.1) at c.position_of-luma.ensures) (simp (c.picture-pic.ensures.0, c.picture-pic.ensures.1) at c.position_of-chroma.ensures) a.second _ _ a.pred0.now a.pred1.now _ _ _ _ _ _ c.if-not-self.false
+    let a = c.args in let parts = done a.b.given (list_of a.self.now) a.gmv c.requires.gmv_value _ _ (simp (c.picture-pic.ensures.0, c.picture-pic.ensures.1) at c.position_of-luma.ensures) (simp (c.picture-pic.ensures.0, c.picture-pic.ensures.1) at c.position_of-chroma.ensures) a.block _ _ a.pred0.now a.pred1.now _ _ _ _ _ _ c.if-not-self.false
     c.cu_dim_offset-offset_u.ensures c.cu_dim_offset-offset_v.ensures
     c.predict_component.ensures.pred0_after c.predict_component.ensures.pred1_after c.predict_component-2.ensures.pred0_after c.predict_component-2.ensures.pred1_after c.predict_component-3.ensures.pred0_after c.predict_component-3.ensures.pred1_after in record { pred0_after = parts.0; pred1_after = parts.1 }
