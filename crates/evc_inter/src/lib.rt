@@ -29,6 +29,7 @@ use evc_direct::{EvcDirect, Pocs};
 use evc_mc::{EvcList, EvcPredicted, Planes, RefPicList};
 use evc_motion::EvcCandidates;
 use evc_plane::PlaneType;
+use evc_record::{PlanesMut, References};
 use evc_replay::EvcReplay;
 use evc_trace::EvcTraceRecord;
 
@@ -263,8 +264,13 @@ pub extern "C" fn evc_trace_replay(
         u: u1,
         v: v1,
     };
-    let col_mv = collocated(has_col, col_mv);
-    evc_replay::evc_trace_replay(trace, ref0, ref1, col_mv, y, u, v)
+    let references = References {
+        ref0,
+        ref1,
+        col_mv: collocated(has_col, col_mv),
+    };
+    let mut target = PlanesMut { y, u, v };
+    evc_replay::evc_trace_replay(trace, &references, &mut target)
 }
 
 // The movement of a picture's camera, by its motion map and unit words.

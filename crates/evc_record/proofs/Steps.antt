@@ -1,11 +1,9 @@
 -- From the block prediction to a record's step: the two blocks of 6144 samples drop out. Assumes nothing.
-use mathlib.Core.Bool.{Bool}
 use mathlib.Core.List.{List}
 use mathlib.Core.Path.{◌≡◌, refl, sym, ap, ◌∙◌}
 use Prim.Native.Nat.{ℕ, ◌≤◌}
 use native.Mathlib.Omega.{arith}
 use borrow.Author.Tests.{ne_eqb, ltb-false}
-use lib.IntN.{ℤ}
 use lib.ListN.{length}
 use Rattle.evc_def.specs.Codes.{first_of, block_checks}
 use Rattle.evc_def.specs.declared.EvcBlock.{EvcBlock}
@@ -18,9 +16,8 @@ use Rattle.evc_mc.specs.declared.EvcPredicted.{EvcPredicted}
 use Rattle.evc_mc.proofs.Checks.{accepts, sides}
 use Rattle.evc_mc.proofs.Samples.{samples_at}
 use Rattle.evc_trace.specs.Format.{count_len, record_of}
-use Rattle.evc_trace.specs.declared.TraceHeader.{TraceHeader}
 use Rattle.evc_trace.specs.declared.EvcTraceRecord.{EvcTraceRecord}
-use Rattle.evc_record.specs.Record.{Planes, planes, Source, source, block_of, motion_of, list0_of, list1_of, with_planes, blank, form_code, block_code, record_code, record_answer, with_picture, plane_after, target_after}
+use Rattle.evc_record.specs.Record.{Planes, planes, Source, block_of, motion_of, list0_of, list1_of, with_planes, blank, form_code, block_code, record_code, record_answer, with_picture, plane_after, target_after}
 use Rattle.evc_record.specs.Inner.{after_record}
 use Rattle.evc_record.proofs.Places.{picture_ext}
 
@@ -45,56 +42,53 @@ predicted b b' l l' m m' s t p q d a ep eq eb el em e f =
 
 -- ---- a record's step
 
-module _ (h : TraceHeader) (p q : Planes) (has : Bool) (col : List ℤ) (s : List ℕ) where
-  abbrev from : Source
-  from = source h p q has col
-
-  pub code_form : (c : ℕ) → c ≡ form_code s → (c ≡ 0 → ⊥) → c ≡ record_code from s
+module _ (e : Source) (s : List ℕ) where
+  pub code_form : (c : ℕ) → c ≡ form_code s → (c ≡ 0 → ⊥) → c ≡ record_code e s
   unfolding record_code
-  code_form c e n = rw (sym e, ne_eqb c 0 n)
+  code_form c ec n = rw (sym ec, ne_eqb c 0 n)
 
-  pub kept : (t : Planes) (c : ℕ) → c ≡ record_code from s → (c ≡ 0 → ⊥) → t ≡ after_record from s t
+  pub kept : (t : Planes) (c : ℕ) → c ≡ record_code e s → (c ≡ 0 → ⊥) → t ≡ after_record e s t
   unfolding after_record
-  kept t c e n = rw (sym e, ne_eqb c 0 n)
+  kept t c ec n = rw (sym ec, ne_eqb c 0 n)
 
   pub whole_record : form_code s ≡ 0 → 22 ≤ length s
   unfolding form_code
-  whole_record e = ltb-false _ _ (accepted 11 _ _ (omega arith) e).0
+  whole_record z = ltb-false _ _ (accepted 11 _ _ (omega arith) z).0
 
-  module _ (form : form_code s ≡ 0) (r : EvcTraceRecord) (er : record_of count_len s ≡ r) (m : EvcDirect) (em : motion_of h has col r ≡ m) where
-    pub code_motion : (m.code ≡ 0 → ⊥) → m.code ≡ record_code from s
+  module _ (form : form_code s ≡ 0) (r : EvcTraceRecord) (er : record_of count_len s ≡ r) (m : EvcDirect) (em : motion_of e.header e.has_col e.col r ≡ m) where
+    pub code_motion : (m.code ≡ 0 → ⊥) → m.code ≡ record_code e s
     unfolding record_code
     code_motion n = rw (form, er, em, ne_eqb m.code 0 n)
 
     module _ (direct : m.code ≡ 0) where
       abbrev first : RefPicList
-      first = with_planes (list0_of r m) p
+      first = with_planes (list0_of r m) e.ref0
 
       abbrev second : RefPicList
-      second = with_planes (list1_of r m) q
+      second = with_planes (list1_of r m) e.ref1
 
-      pub code_block : (c : ℕ) → c ≡ mc2_code (block_of h r) first second blank blank → c ≡ record_code from s
+      pub code_block : (c : ℕ) → c ≡ mc2_code (block_of e.header r) first second blank blank → c ≡ record_code e s
       unfolding record_code block_code
-      code_block c e = rw (form, er, em, direct) e
+      code_block c ec = rw (form, er, em, direct) ec
 
-      pub answer_block : (a : EvcPredicted) → a ≡ mc2_answer (block_of h r) first second blank blank → a ≡ record_answer from s
-      answer_block a e = rw (er, em, sym (code_block (mc2_code (block_of h r) first second blank blank) refl)) e
+      pub answer_block : (a : EvcPredicted) → a ≡ mc2_answer (block_of e.header r) first second blank blank → a ≡ record_answer e s
+      answer_block a ea = rw (er, em, sym (code_block (mc2_code (block_of e.header r) first second blank blank) refl)) ea
 
-      module _ (e : mc2_code (block_of h r) first second blank blank ≡ 0) where
-        pub good_block : first_of (block_checks (block_of h r)) ≡ 0
-        good_block = (accepts (block_of h r) first second blank blank e).block
+      module _ (z : mc2_code (block_of e.header r) first second blank blank ≡ 0) where
+        pub good_block : first_of (block_checks (block_of e.header r)) ≡ 0
+        good_block = (accepts (block_of e.header r) first second blank blank z).block
 
         -- a plane with the block that was predicted
-        pub one_plane : (c : Component) (x k d pred : List ℕ) (b : EvcBlock) → b ≡ block_of h r → pred_len ≤ length pred → d ≡ with_samples (block_of h r) (first_sample (block_of h r) first second) pred
-            → k ≡ with_picture b c (block_sample b d c) x → k ≡ plane_after from s c x
+        pub one_plane : (c : Component) (x k d pred : List ℕ) (b : EvcBlock) → b ≡ block_of e.header r → pred_len ≤ length pred → d ≡ with_samples (block_of e.header r) (first_sample (block_of e.header r) first second) pred
+            → k ≡ with_picture b c (block_sample b d c) x → k ≡ plane_after e s c x
         unfolding plane_after
         one_plane c x k d pred b eb l ed ek =
             rw (er, em)
             (ek
             ∙ ap (λ (b : EvcBlock). with_picture b c (block_sample b d c) x) eb
-            ∙ ap (λ (d : List ℕ). with_picture (block_of h r) c (block_sample (block_of h r) d c) x) ed
-            ∙ picture_ext (block_of h r) c _ _ x (λ j i lj li. samples_at (block_of h r) (sides (block_of h r) good_block) (first_sample (block_of h r) first second) pred l c j i lj li))
+            ∙ ap (λ (d : List ℕ). with_picture (block_of e.header r) c (block_sample (block_of e.header r) d c) x) ed
+            ∙ picture_ext (block_of e.header r) c _ _ x (λ j i lj li. samples_at (block_of e.header r) (sides (block_of e.header r) good_block) (first_sample (block_of e.header r) first second) pred l c j i lj li))
 
-        pub all_planes : (y u v y' u' v' : List ℕ) → y' ≡ plane_after from s luma y → u' ≡ plane_after from s cb u → v' ≡ plane_after from s cr v → planes y' u' v' ≡ after_record from s (planes y u v)
+        pub all_planes : (y u v y' u' v' : List ℕ) → y' ≡ plane_after e s luma y → u' ≡ plane_after e s cb u → v' ≡ plane_after e s cr v → planes y' u' v' ≡ after_record e s (planes y u v)
         unfolding after_record target_after
-        all_planes y u v y' u' v' a b c = rw (sym (code_block 0 (sym e)), a, b, c)
+        all_planes y u v y' u' v' a b c = rw (sym (code_block 0 (sym z)), a, b, c)

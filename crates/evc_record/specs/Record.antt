@@ -1,11 +1,12 @@
 -- Document 02, W1: one record of a trace: its number, and what it puts into the target.
-use Rattle.std.specs.Prelude.{Bool, not, cond, ◌&&◌, List, [], ◌∷◌, ℕ, ◌+◌, ◌*◌, ltb, eqb, ℤ, length, replicate}
+use Rattle.std.specs.Prelude.{Bool, not, cond, ◌&&◌, List, [], ◌∷◌, ◌≡◌, ℕ, ◌+◌, ◌*◌, ltb, eqb, ℤ, length, replicate}
 use Rattle.evc_int.specs.Lists.{with_block}
 use Rattle.evc_def.specs.Codes.{◌when◌, first_of, zero_mv}
 use Rattle.evc_def.specs.declared.EvcBlock.{EvcBlock}
 use Rattle.evc_def.specs.declared.EvcMv.{EvcMv}
 use Rattle.evc_plane.specs.Planes.{side_of, pad_of, origin_of, stride_of}
 use Rattle.evc_plane.specs.declared.PlaneType.{PlaneType}
+use Rattle.evc_map.specs.Maps.{is_present, numbers_of}
 use Rattle.evc_direct.specs.Direct.{get_mv_dir}
 use Rattle.evc_direct.specs.declared.EvcDirect.{EvcDirect}
 use Rattle.evc_direct.specs.declared.Pocs.{Pocs}
@@ -14,6 +15,8 @@ use Rattle.evc_mc.specs.Block.{RefPicList, Component, luma, cb, cr, type_of, wid
 use Rattle.evc_mc.specs.declared.EvcList.{EvcList}
 use Rattle.evc_mc.specs.declared.EvcPredicted.{EvcPredicted}
 use Rattle.evc_mc.specs.declared.Planes.{Planes as LentPlanes}
+use Rattle.evc_record.specs.declared.PlanesMut.{PlanesMut}
+use Rattle.evc_record.specs.declared.Source.{Source as LentSource}
 use Rattle.evc_trace.specs.Format.{record_len, count_len, record_of, last_byte, is_well_formed}
 use Rattle.evc_trace.specs.declared.TraceHeader.{TraceHeader}
 use Rattle.evc_trace.specs.declared.EvcTraceRecord.{EvcTraceRecord}
@@ -31,6 +34,15 @@ planes y u v = record { y = y; u = u; v = v }
 abbrev pub planes_of : LentPlanes → Planes
 planes_of p = planes p.y.now p.u.now p.v.now
 
+abbrev pub target_of : PlanesMut → Planes
+target_of p = planes p.y.now p.u.now p.v.now
+
+-- the same planes are lent
+pub record SamePlanes (p q : PlanesMut) : Type 0 where
+  pub y : p.y.ghost_name ≡ q.y.ghost_name
+  pub u : p.u.ghost_name ≡ q.u.ghost_name
+  pub v : p.v.ghost_name ≡ q.v.ghost_name
+
 -- 4: "every lent plane"
 unfoldable pub picture_short : ℕ → ℕ → Planes → Bool
 picture_short W H p = planes_short W H p.y p.u p.v
@@ -45,6 +57,11 @@ pub record Source : Type 0 where
 
 abbrev pub source : TraceHeader → Planes → Planes → Bool → List ℤ → Source
 source h p q has col = record { header = h; ref0 = p; ref1 = q; has_col = has; col = col }
+
+-- as it is lent
+abbrev pub source_of : LentSource → Source
+source_of e =
+    let l = e.references in source e.header (planes_of l.ref0) (planes_of l.ref1) (is_present l.col_mv) (numbers_of l.col_mv)
 
 -- ---- the block, its motion and its lists
 

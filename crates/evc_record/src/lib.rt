@@ -7,18 +7,44 @@ ghost use Rattle.evc_plane.specs.Planes.{side_of, stride_of, plane_len};
 ghost use Rattle.evc_map.specs.Maps.{is_present, numbers_of};
 ghost use Rattle.evc_direct.specs.Direct.{answer_of as direct_answer};
 ghost use Rattle.evc_lanes.specs.Inner.{is_row_width};
-ghost use Rattle.evc_mc.specs.Block.{luma, cb, cr, pred_len, answer_of, mc2_answer, with_samples, first_sample};
+ghost use Rattle.evc_mc.specs.Block.{luma, cb, cr, pred_len, answer_of, mc2_answer, with_samples, first_sample, planes_short};
 ghost use Rattle.evc_mc.specs.Inner.{block_sample};
 ghost use Rattle.evc_trace.specs.Format.{count_len, record_of};
-ghost use Rattle.evc_record.specs.Record.{planes, planes_of, with_planes, picture_short, source, place_in, with_picture};
+ghost use Rattle.evc_trace.specs.Kinds.{byte_of};
+ghost use Rattle.evc_record.specs.Record.{planes_of, target_of, SamePlanes, with_planes, picture_short, source_of, place_in, with_picture};
 ghost use Rattle.evc_record.specs.Record.{block_of, pocs_of, motion_of, list0_of, list1_of, blank, form_code, record_answer};
 ghost use Rattle.evc_record.specs.Inner.{after_record};
 
-use evc_def::{Block, EvcBlock, Refusal};
+use evc_def::{Block, EvcBlock, Picture, Refusal};
 use evc_direct::{DirectVectors, Pocs};
 use evc_mc::{EvcList, ListsMoved, Planes, RefPicList};
 use evc_plane::{PlaneSlice, PlaneType};
-use evc_trace::{EvcTraceRecord, RECORD_LEN, TraceHeader};
+use evc_trace::{EvcTraceRecord, Kind, RECORD_LEN, TraceHeader};
+
+// ---- what is lent
+
+// Two reference pictures, and the collocated motion map or none.
+#[derive(Clone, Copy)]
+pub struct References<'a> {
+    pub ref0: Planes<'a>,
+    pub ref1: Planes<'a>,
+    pub col_mv: Option<&'a [i16]>,
+}
+
+// What every record of a trace is replayed from.
+#[derive(Clone, Copy)]
+pub struct Source<'a> {
+    pub header: TraceHeader,
+    pub references: References<'a>,
+}
+
+// The three planes of a target.
+#[derive(Drop)]
+pub struct PlanesMut<'a> {
+    pub y: &'a mut [u16],
+    pub u: &'a mut [u16],
+    pub v: &'a mut [u16],
+}
 
 // ---- a block's samples into the target
 
@@ -54,18 +80,27 @@ fn put_component(t: PlaneType, b: Block, pred: &[u16], offset: usize, plane: &mu
 
 // ---- a record, its motion and lists
 
-fn checked_record(s: &[u8]) -> Result<EvcTraceRecord, Refusal>
+// A record whose form is right.
+#[derive(Clone, Copy)]
+struct Record {
+    kind: Kind,
+    fields: EvcTraceRecord,
+    ghost kind_is: { fields.kind ≡ byte_of kind },
+}
+
+fn checked_record(s: &[u8]) -> Result<Record, Refusal>
     ensures code { code_of result ≡ form_code s.now }
-    ensures value { IfOk result (λ r. r ≡ record_of count_len s.now) }
+    ensures value { IfOk result (λ r. r.fields ≡ record_of count_len s.now) }
 {
     if s.len() < RECORD_LEN {
         return Err(Refusal::Incomplete);
     }
-    let r = evc_trace::read_record(s);
-    if !(evc_trace::is_well_formed(r) & (s[21] == 0)) {
+    let fields = evc_trace::read_record(s);
+    let kind = Kind::try_from(fields.kind)?;
+    if !(evc_trace::is_well_formed(fields) & (s[21] == 0)) {
         return Err(Refusal::Record);
     }
-    Ok(r)
+    Ok(Record { kind, fields })
 }
 
 fn block_of(h: TraceHeader, r: EvcTraceRecord) -> EvcBlock
@@ -92,112 +127,124 @@ fn pocs_of(h: TraceHeader, r: EvcTraceRecord) -> Pocs
     }
 }
 
-fn motion(
-    h: TraceHeader,
-    r: EvcTraceRecord,
-    col_mv: Option<&[i16]>,
-) -> Result<DirectVectors, Refusal>
-    ensures { direct_answer result ≡ motion_of h (is_present col_mv.entry) (numbers_of col_mv.entry) r }
+fn motion(from: &Source, r: Record) -> Result<DirectVectors, Refusal>
+    ensures { let e = source_of from.now in
+        direct_answer result ≡ motion_of e.header e.has_col e.col r.fields }
 {
-    if r.kind == 3 {
-        return evc_direct::get_mv_dir(block_of(h, r), pocs_of(h, r), col_mv);
+    let h = from.header;
+    let Record { kind, fields } = r;
+    if kind == Kind::Direct {
+        return evc_direct::get_mv_dir(
+            block_of(h, fields),
+            pocs_of(h, fields),
+            from.references.col_mv,
+        );
     }
     Ok(DirectVectors {
-        mv0: r.mv0,
-        mv1: r.mv1,
+        mv0: fields.mv0,
+        mv1: fields.mv1,
     })
 }
 
-fn list0(r: EvcTraceRecord, m: DirectVectors) -> EvcList
-    ensures { result ≡ list0_of r (direct_answer (Ok m)) }
+fn list0(r: Record, m: DirectVectors) -> EvcList
+    ensures { result ≡ list0_of r.fields (direct_answer (Ok m)) }
 {
     EvcList {
-        used: r.kind != 1,
+        used: r.kind != Kind::List1,
         mv: m.mv0,
-        poc: r.poc0 as u32,
+        poc: r.fields.poc0 as u32,
     }
 }
 
-fn list1(r: EvcTraceRecord, m: DirectVectors) -> EvcList
-    ensures { result ≡ list1_of r (direct_answer (Ok m)) }
+fn list1(r: Record, m: DirectVectors) -> EvcList
+    ensures { result ≡ list1_of r.fields (direct_answer (Ok m)) }
 {
     EvcList {
-        used: r.kind != 0,
+        used: r.kind != Kind::List0,
         mv: m.mv1,
-        poc: r.poc1 as u32,
+        poc: r.fields.poc1 as u32,
     }
 }
 
 // ---- a record
 
-// The three components of a predicted block.
-fn put_block(b: Block, pred: &[u16], y: &mut [u16], u: &mut [u16], v: &mut [u16])
-    requires pred_len_in_bounds { pred_len ≤ length pred.now }
-    requires long_enough { picture_short b.given.pic_w b.given.pic_h (planes y.old u.old v.old) ≡ false }
-    ensures y_after { y.new ≡ with_picture b.given luma (block_sample b.given pred.now luma) y.old }
-    ensures u_after { u.new ≡ with_picture b.given cb (block_sample b.given pred.now cb) u.old }
-    ensures v_after { v.new ≡ with_picture b.given cr (block_sample b.given pred.now cr) v.old }
-{
-    let offset_u = evc_def::cu_dim_offset(1);
-    let offset_v = evc_def::cu_dim_offset(2);
-    put_component(PlaneType::Y, b, pred, 0, y);
-    put_component(PlaneType::UV, b, pred, offset_u, u);
-    put_component(PlaneType::UV, b, pred, offset_v, v);
+impl PlanesMut<'_> {
+    pub fn are_short(&self, pic: Picture) -> bool
+        ensures { result ≡ planes_short pic.w pic.h self.now.y.now self.now.u.now self.now.v.now }
+    {
+        let planes = Planes {
+            y: self.y,
+            u: self.u,
+            v: self.v,
+        };
+        planes.are_short(pic)
+    }
+
+    // The three components of a predicted block.
+    fn put_block(&mut self, b: Block, pred: &[u16])
+        requires pred_len_in_bounds { pred_len ≤ length pred.now }
+        requires long_enough { picture_short b.given.pic_w b.given.pic_h (target_of self.old) ≡ false }
+        ensures y_after { self.new.y.now ≡ with_picture b.given luma (block_sample b.given pred.now luma) self.old.y.now }
+        ensures u_after { self.new.u.now ≡ with_picture b.given cb (block_sample b.given pred.now cb) self.old.u.now }
+        ensures v_after { self.new.v.now ≡ with_picture b.given cr (block_sample b.given pred.now cr) self.old.v.now }
+        ensures same_planes { SamePlanes self.old self.new }
+    {
+        let offset_u = evc_def::cu_dim_offset(1);
+        let offset_v = evc_def::cu_dim_offset(2);
+        put_component(PlaneType::Y, b, pred, 0, self.y);
+        put_component(PlaneType::UV, b, pred, offset_u, self.u);
+        put_component(PlaneType::UV, b, pred, offset_v, self.v);
+    }
 }
 
 // A record's block, predicted into the first of two blocks.
 fn predict_record(
-    h: TraceHeader,
-    r: EvcTraceRecord,
+    from: &Source,
+    r: Record,
     m: DirectVectors,
-    ref0: Planes,
-    ref1: Planes,
     pred0: &mut [u16],
     pred1: &mut [u16],
 ) -> Result<ListsMoved, Refusal>
     requires { (length pred0.old ≡ pred_len) × (length pred1.old ≡ pred_len) }
-    ensures result_value { let l0 = with_planes (list0_of r (direct_answer (Ok m))) (planes_of ref0.entry) in
-        let l1 = with_planes (list1_of r (direct_answer (Ok m))) (planes_of ref1.entry) in
-        answer_of result ≡ mc2_answer (block_of h r) l0 l1 blank blank }
-    ensures pred0_after { let l0 = with_planes (list0_of r (direct_answer (Ok m))) (planes_of ref0.entry) in
-        let l1 = with_planes (list1_of r (direct_answer (Ok m))) (planes_of ref1.entry) in
-        code_of result ≡ 0 → pred0.new ≡ with_samples (block_of h r) (first_sample (block_of h r) l0 l1) pred0.old }
+    ensures result_value { let e = source_of from.now in
+        let l0 = with_planes (list0_of r.fields (direct_answer (Ok m))) e.ref0 in
+        let l1 = with_planes (list1_of r.fields (direct_answer (Ok m))) e.ref1 in
+        answer_of result ≡ mc2_answer (block_of e.header r.fields) l0 l1 blank blank }
+    ensures pred0_after { let e = source_of from.now in
+        let b = block_of e.header r.fields in
+        let l0 = with_planes (list0_of r.fields (direct_answer (Ok m))) e.ref0 in
+        let l1 = with_planes (list1_of r.fields (direct_answer (Ok m))) e.ref1 in
+        code_of result ≡ 0 → pred0.new ≡ with_samples b (first_sample b l0 l1) pred0.old }
 {
     let l0 = RefPicList {
         list: list0(r, m),
-        planes: ref0,
+        planes: from.references.ref0,
     };
     let l1 = RefPicList {
         list: list1(r, m),
-        planes: ref1,
+        planes: from.references.ref1,
     };
-    evc_mc::evc_mc2(block_of(h, r), &l0, &l1, pred0, pred1)
+    evc_mc::evc_mc2(block_of(from.header, r.fields), &l0, &l1, pred0, pred1)
 }
 
 // One record: its number and reports, and on 0 its block in the target.
 pub fn replay_record(
-    h: TraceHeader,
+    from: &Source,
     s: &[u8],
-    ref0: Planes,
-    ref1: Planes,
-    col_mv: Option<&[i16]>,
-    y: &mut [u16],
-    u: &mut [u16],
-    v: &mut [u16],
+    target: &mut PlanesMut,
     pred0: &mut [u16],
     pred1: &mut [u16],
 ) -> Result<ListsMoved, Refusal>
-    requires v_value { picture_short h.pic_w h.pic_h (planes y.old u.old v.old) ≡ false }
+    requires long_enough { picture_short from.now.header.pic_w from.now.header.pic_h (target_of target.old) ≡ false }
     requires pred0_len { (length pred0.old ≡ pred_len) × (length pred1.old ≡ pred_len) }
-    ensures result_value { let from = source h (planes_of ref0.entry) (planes_of ref1.entry) (is_present col_mv.entry) (numbers_of col_mv.entry) in
-        answer_of result ≡ record_answer from s.now }
-    ensures v_after { let from = source h (planes_of ref0.entry) (planes_of ref1.entry) (is_present col_mv.entry) (numbers_of col_mv.entry) in
-        planes y.new u.new v.new ≡ after_record from s.now (planes y.old u.old v.old) }
+    ensures result_value { answer_of result ≡ record_answer (source_of from.now) s.now }
+    ensures target_after { target_of target.new ≡ after_record (source_of from.now) s.now (target_of target.old) }
+    ensures same_planes { SamePlanes target.old target.new }
 {
     let r = checked_record(s)?;
-    let m = motion(h, r, col_mv)?;
-    let moved = predict_record(h, r, m, ref0, ref1, pred0, pred1)?;
-    let given = block_of(h, r);
-    put_block(Block { given }, pred0, y, u, v);
+    let m = motion(from, r)?;
+    let moved = predict_record(from, r, m, pred0, pred1)?;
+    let given = block_of(from.header, r.fields);
+    target.put_block(Block { given }, pred0);
     Ok(moved)
 }

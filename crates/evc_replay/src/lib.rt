@@ -1,16 +1,17 @@
 #![tactic(auto)]
 
-ghost use Rattle.std.specs.Prelude.{◌≡◌, false, IfOk, ◌≤◌, length, take, drop};
+ghost use Rattle.std.specs.Prelude.{◌≡◌, false, IfOk, ◌≤◌, length};
 ghost use Rattle.evc_def.specs.Refusals.{code_of};
 ghost use Rattle.evc_map.specs.Maps.{is_present, numbers_of};
-ghost use Rattle.evc_trace.specs.Format.{header_len, record_len, count_len, header_of};
-ghost use Rattle.evc_record.specs.Record.{planes, planes_of, picture_short, source};
+ghost use Rattle.evc_trace.specs.Format.{header_len, count_len, header_of};
+ghost use Rattle.evc_record.specs.Record.{planes_of, target_of, SamePlanes, picture_short, source_of};
 ghost use Rattle.evc_replay.specs.Replay.{answer_in, header_code, records_from, applied, replayed};
 ghost use Rattle.evc_replay.specs.Counts.{finished, counted_over, replayed_counts, counts_in};
 
 use evc_counts::MovedCounts;
 use evc_def::{Picture, Refusal};
-use evc_mc::{PRED_LEN, Planes};
+use evc_mc::PRED_LEN;
+use evc_record::{PlanesMut, References, Source};
 use evc_trace::{HEADER_LEN, RECORD_LEN, TraceHeader};
 
 #[repr(C)]
@@ -38,57 +39,28 @@ fn answer(ended: Result<(), Refusal>, index: u64, c: MovedCounts) -> EvcReplay
     }
 }
 
-// The record at `at`, or what is left of it.
-fn record_at(trace: &[u8], at: usize) -> &[u8]
-    requires { at ≤ length trace.now }
-    ensures { result.now ≡ take (record_len count_len) (drop at trace.now) }
-{
-    if trace.len() - at < RECORD_LEN {
-        return &trace[at..];
-    }
-    let end = at + RECORD_LEN;
-    &trace[at..end]
-}
-
 // The records one after another.
-fn replay_records(
-    h: TraceHeader,
-    trace: &[u8],
-    ref0: Planes,
-    ref1: Planes,
-    col_mv: Option<&[i16]>,
-    y: &mut [u16],
-    u: &mut [u16],
-    v: &mut [u16],
-) -> EvcReplay
-    requires { (picture_short h.pic_w h.pic_h (planes y.old u.old v.old) ≡ false) × (header_len count_len ≤ length trace.now) }
-    ensures v_after { let first = planes_of ref0.entry in
-        let second = planes_of ref1.entry in
-        let from = source h first second (is_present col_mv.entry) (numbers_of col_mv.entry) in
-        let target = planes y.old u.old v.old in
-        record { answer = answer_in result; target = planes y.new u.new v.new } ≡ applied from (records_from trace.now (header_len count_len)) 0 target }
-    ensures result_value { let first = planes_of ref0.entry in
-        let second = planes_of ref1.entry in
-        let from = source h first second (is_present col_mv.entry) (numbers_of col_mv.entry) in
-        counts_in result ≡ counted_over from (finished from (records_from trace.now (header_len count_len))) }
+fn replay_records(from: &Source, trace: &[u8], target: &mut PlanesMut) -> EvcReplay
+    requires long_enough { picture_short from.now.header.pic_w from.now.header.pic_h (target_of target.old) ≡ false }
+    requires has_header { header_len count_len ≤ length trace.now }
+    ensures target_after { let e = source_of from.now in
+        record { answer = answer_in result; target = target_of target.new } ≡ applied e (records_from trace.now (header_len count_len)) 0 (target_of target.old) }
+    ensures counts { let e = source_of from.now in
+        counts_in result ≡ counted_over e (finished e (records_from trace.now (header_len count_len))) }
+    ensures same_planes { SamePlanes target.old target.new }
 {
     let mut pred0 = [0u16; PRED_LEN];
     let mut pred1 = [0u16; PRED_LEN];
-    let mut at = HEADER_LEN;
     let mut index: u64 = 0;
     let mut counts = MovedCounts::default();
-    while at < trace.len() {
-        let record = record_at(trace, at);
-        let moved = match evc_record::replay_record(
-            h, record, ref0, ref1, col_mv, y, u, v, &mut pred0, &mut pred1,
-        ) {
+    for record in trace[HEADER_LEN..].chunks(RECORD_LEN) {
+        let moved = match evc_record::replay_record(from, record, target, &mut pred0, &mut pred1) {
             Ok(moved) => moved,
             Err(refusal) => return answer(Err(refusal), index, counts),
         };
         let moved0 = moved.moved0;
         let moved1 = moved.moved1;
         counts = counts.with_lists(moved0, moved1);
-        at += RECORD_LEN;
         index += 1;
     }
     answer(Ok(()), index, counts)
@@ -96,14 +68,13 @@ fn replay_records(
 
 fn checked_header(
     trace: &[u8],
-    ref0: Planes,
-    ref1: Planes,
-    col_mv: Option<&[i16]>,
-    target: Planes,
+    references: &References,
+    target: &PlanesMut,
 ) -> Result<TraceHeader, Refusal>
-    ensures code { let first = planes_of ref0.entry in
-        let second = planes_of ref1.entry in
-        code_of result ≡ header_code trace.now first second (is_present col_mv.entry) (numbers_of col_mv.entry) (planes_of target.entry) }
+    ensures code { let p = planes_of references.now.ref0 in
+        let q = planes_of references.now.ref1 in
+        let col_mv = references.now.col_mv in
+        code_of result ≡ header_code trace.now p q (is_present col_mv) (numbers_of col_mv) (target_of target.now) }
     ensures value { IfOk result (λ h. h ≡ header_of count_len trace.now) }
 {
     if trace.len() < HEADER_LEN {
@@ -114,6 +85,7 @@ fn checked_header(
     }
     let h = evc_trace::read_header(trace);
     let pic = Picture::new(h.pic_w, h.pic_h)?;
+    let References { ref0, ref1, col_mv } = *references;
     if ref0.are_short(pic)
         | ref1.are_short(pic)
         | target.are_short(pic)
@@ -124,26 +96,24 @@ fn checked_header(
     Ok(h)
 }
 
-pub fn evc_trace_replay(
-    trace: &[u8],
-    ref0: Planes,
-    ref1: Planes,
-    col_mv: Option<&[i16]>,
-    y: &mut [u16],
-    u: &mut [u16],
-    v: &mut [u16],
-) -> EvcReplay
-    ensures v_after { let first = planes_of ref0.entry in
-        let second = planes_of ref1.entry in
-        let target = planes y.old u.old v.old in
-        record { answer = answer_in result; target = planes y.new u.new v.new } ≡ replayed trace.now first second (is_present col_mv.entry) (numbers_of col_mv.entry) target }
-    ensures result_value { let first = planes_of ref0.entry in
-        let second = planes_of ref1.entry in
-        let target = planes y.old u.old v.old in
-        counts_in result ≡ replayed_counts trace.now first second (is_present col_mv.entry) (numbers_of col_mv.entry) target }
+pub fn evc_trace_replay(trace: &[u8], references: &References, target: &mut PlanesMut) -> EvcReplay
+    ensures target_after { let p = planes_of references.now.ref0 in
+        let q = planes_of references.now.ref1 in
+        let col_mv = references.now.col_mv in
+        record { answer = answer_in result; target = target_of target.new } ≡ replayed trace.now p q (is_present col_mv) (numbers_of col_mv) (target_of target.old) }
+    ensures counts { let p = planes_of references.now.ref0 in
+        let q = planes_of references.now.ref1 in
+        let col_mv = references.now.col_mv in
+        counts_in result ≡ replayed_counts trace.now p q (is_present col_mv) (numbers_of col_mv) (target_of target.old) }
+    ensures same_planes { SamePlanes target.old target.new }
 {
-    match checked_header(trace, ref0, ref1, col_mv, Planes { y, u, v }) {
-        Ok(h) => replay_records(h, trace, ref0, ref1, col_mv, y, u, v),
-        Err(refusal) => answer(Err(refusal), 0, MovedCounts::default()),
-    }
+    let header = match checked_header(trace, references, target) {
+        Ok(header) => header,
+        Err(refusal) => return answer(Err(refusal), 0, MovedCounts::default()),
+    };
+    let from = Source {
+        header,
+        references: *references,
+    };
+    replay_records(&from, trace, target)
 }

@@ -40,6 +40,34 @@ pub struct EvcTraceRecord {
     pub poc1: u16,
 }
 
+// The lists that a record's block is predicted from: one or both, with its own vectors, or both with direct ones.
+#[derive(Clone, Copy, PartialEq, Eq)]
+pub enum Kind {
+    List0,
+    List1,
+    Both,
+    Direct,
+}
+
+// By its byte in the trace.
+impl TryFrom<u8> for Kind {
+    type Error = Refusal;
+
+    ghost use Rattle.evc_trace.specs.Kinds.{IsKind};
+
+    ghost try_from_gives = { IsKind };
+
+    fn try_from(byte: u8) -> Result<Kind, Refusal> {
+        match byte {
+            0 => Ok(Kind::List0),
+            1 => Ok(Kind::List1),
+            2 => Ok(Kind::Both),
+            3 => Ok(Kind::Direct),
+            _ => Err(Refusal::Record),
+        }
+    }
+}
+
 // ---- fields
 
 fn put_pair(out: &mut [u8], at: usize, a: u16, b: u16)
@@ -75,10 +103,13 @@ pub fn is_well_formed(r: EvcTraceRecord) -> bool
 {
     let zero0 = r.mv0 == EvcMv::default();
     let zero1 = r.mv1 == EvcMv::default();
-    (r.kind <= 3)
-        & ((r.kind != 0) | (zero1 & (r.poc1 == 0)))
-        & ((r.kind != 1) | (zero0 & (r.poc0 == 0)))
-        & ((r.kind != 3) | (zero0 & zero1))
+    match Kind::try_from(r.kind) {
+        Ok(Kind::List0) => zero1 & (r.poc1 == 0),
+        Ok(Kind::List1) => zero0 & (r.poc0 == 0),
+        Ok(Kind::Both) => true,
+        Ok(Kind::Direct) => zero0 & zero1,
+        Err(_) => false,
+    }
 }
 
 // ---- the readers, each over a part that starts at the header or at the record

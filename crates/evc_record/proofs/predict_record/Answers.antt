@@ -5,7 +5,7 @@ use Rattle.evc_def.specs.Refusals.{code_of}
 use Rattle.evc_def.specs.declared.refusal.Refusal.{Refusal}
 use Rattle.evc_mc.specs.Block.{answer_of}
 use Rattle.evc_mc.specs.declared.ListsMoved.{ListsMoved}
-use Rattle.evc_record.specs.Record.{planes_of}
+use Rattle.evc_record.specs.Record.{source_of}
 use Rattle.evc_record.proofs.Steps.{predicted}
 use Rattle.evc_record.proofs.predict_record.Goals as goal
 
@@ -16,5 +16,6 @@ code_is (Err r) = refl
 pub returns : goal.returns
 returns c =
     let a = c.args in
-    let parts = predicted _ _ _ _ _ _ (planes_of a.ref0) (planes_of a.ref1) a.pred0.now a.pred1.now _ _ c.requires.0 c.requires.1 c.block_of.ensures c.list0.ensures c.list1.ensures c.evc_mc2.ensures.result_value c.evc_mc2.ensures.pred0_after in
+    let e = source_of a.from.now in
+    let parts = predicted _ _ _ _ _ _ e.ref0 e.ref1 a.pred0.now a.pred1.now _ _ c.requires.0 c.requires.1 c.block_of.ensures c.list0.ensures c.list1.ensures c.evc_mc2.ensures.result_value c.evc_mc2.ensures.pred0_after in
     record { result_value = parts.0; pred0_after = λ z. parts.1 (code_is _ ∙ z) }

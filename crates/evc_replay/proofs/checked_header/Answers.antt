@@ -6,18 +6,19 @@ use native.Mathlib.Omega.{arith}
 use Rattle.std.proofs.lemmas.Result.{err_from_is_err_and}
 use Rattle.evc_def.proofs.Codes.{accepted}
 use Rattle.evc_map.specs.Maps.{is_present, numbers_of}
-use Rattle.evc_record.specs.Record.{planes_of}
+use Rattle.evc_record.specs.Record.{planes_of, target_of}
 use Rattle.evc_replay.proofs.Header.{tested, code_11, code_10, picture, code_4, code_0}
 use Rattle.evc_replay.proofs.checked_header.Goals as goal
 
 pub returns-then-trace-lt-HEADER_LEN-clause-code : goal.returns-then-trace-lt-HEADER_LEN-clause-code
 returns-then-trace-lt-HEADER_LEN-clause-code c =
     let a = c.args in
-    let p = planes_of a.ref0 in
-    let q = planes_of a.ref1 in
-    let t = planes_of a.target in
+    let r = a.references.now in
+    let p = planes_of r.ref0 in
+    let q = planes_of r.ref1 in
+    let t = target_of a.target.now in
     let s = a.trace.now in
-    code_11 s p q (is_present a.col_mv) (numbers_of a.col_mv) t c.if-trace-lt-HEADER_LEN.true
+    code_11 s p q (is_present r.col_mv) (numbers_of r.col_mv) t c.if-trace-lt-HEADER_LEN.true
 
 pub is_trace-requires : goal.is_trace-requires
 is_trace-requires c = search rules
@@ -25,11 +26,12 @@ is_trace-requires c = search rules
 pub returns-then-not-is_trace-clause-code : goal.returns-then-not-is_trace-clause-code
 returns-then-not-is_trace-clause-code c =
     let a = c.args in
-    let p = planes_of a.ref0 in
-    let q = planes_of a.ref1 in
-    let t = planes_of a.target in
+    let r = a.references.now in
+    let p = planes_of r.ref0 in
+    let q = planes_of r.ref1 in
+    let t = target_of a.target.now in
     let s = a.trace.now in
-    code_10 s p q (is_present a.col_mv) (numbers_of a.col_mv) t c.if-trace-lt-HEADER_LEN.false (ap not (sym c.is_trace.ensures ∙ c.if-not-is_trace.true))
+    code_10 s p q (is_present r.col_mv) (numbers_of r.col_mv) t c.if-trace-lt-HEADER_LEN.false (ap not (sym c.is_trace.ensures ∙ c.if-not-is_trace.true))
 
 pub read_header-h-requires : goal.read_header-h-requires
 read_header-h-requires c = search rules
@@ -37,12 +39,13 @@ read_header-h-requires c = search rules
 pub returns-in_err-pic-clause-code : goal.returns-in_err-pic-clause-code
 returns-in_err-pic-clause-code c =
     let a = c.args in
-    let p = planes_of a.ref0 in
-    let q = planes_of a.ref1 in
-    let t = planes_of a.target in
+    let r = a.references.now in
+    let p = planes_of r.ref0 in
+    let q = planes_of r.ref1 in
+    let t = target_of a.target.now in
     let s = a.trace.now in
-    let has = is_present a.col_mv in
-    let col = numbers_of a.col_mv in
+    let has = is_present r.col_mv in
+    let col = numbers_of r.col_mv in
     let l = c.if-trace-lt-HEADER_LEN.false in
     let m = ap not (sym c.is_trace.ensures ∙ c.if-not-is_trace.false) in
     let eh = sym c.read_header-h.ensures in
@@ -52,12 +55,13 @@ returns-in_err-pic-clause-code c =
 pub returns-then-are_short-col_short-clause-code : goal.returns-then-are_short-col_short-clause-code
 returns-then-are_short-col_short-clause-code c =
     let a = c.args in
-    let p = planes_of a.ref0 in
-    let q = planes_of a.ref1 in
-    let t = planes_of a.target in
+    let r = a.references.now in
+    let p = planes_of r.ref0 in
+    let q = planes_of r.ref1 in
+    let t = target_of a.target.now in
     let s = a.trace.now in
-    let has = is_present a.col_mv in
-    let col = numbers_of a.col_mv in
+    let has = is_present r.col_mv in
+    let col = numbers_of r.col_mv in
     let l = c.if-trace-lt-HEADER_LEN.false in
     let m = ap not (sym c.is_trace.ensures ∙ c.if-not-is_trace.false) in
     let eh = sym c.read_header-h.ensures in
@@ -69,12 +73,13 @@ returns-then-are_short-col_short-clause-code c =
 pub returns-clause-code : goal.returns-clause-code
 returns-clause-code c =
     let a = c.args in
-    let p = planes_of a.ref0 in
-    let q = planes_of a.ref1 in
-    let t = planes_of a.target in
+    let r = a.references.now in
+    let p = planes_of r.ref0 in
+    let q = planes_of r.ref1 in
+    let t = target_of a.target.now in
     let s = a.trace.now in
-    let has = is_present a.col_mv in
-    let col = numbers_of a.col_mv in
+    let has = is_present r.col_mv in
+    let col = numbers_of r.col_mv in
     let l = c.if-trace-lt-HEADER_LEN.false in
     let m = ap not (sym c.is_trace.ensures ∙ c.if-not-is_trace.false) in
     let eh = sym c.read_header-h.ensures in

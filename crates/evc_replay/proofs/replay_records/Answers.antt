@@ -1,85 +1,101 @@
--- `evc_replay::replay_records` meets its contract. The invariant: what is left of the records, applied to the target as it is, gives what all of them
--- give; and so do their counts, added to those so far. Assumes nothing.
-use mathlib.Core.Path.{refl, sym, ap, subst, ◌∙◌}
-use Prim.Native.Nat.{◌+◌, ◌*◌}
+-- `evc_replay::replay_records` meets its contract. Assumes nothing.
+use mathlib.Core.List.{List}
+use mathlib.Core.Path.{sym, ap, subst, ◌∙◌}
+use Prim.Native.Nat.{ℕ, ◌+◌, ◌*◌, min}
 use native.Mathlib.Omega.{arith}
+use lib.ListN.{length, length-append, length-drop}
+use Rattle.std.proofs.lemmas.List.{take_rest}
+use Rattle.std.specs.declared.slice.Chunks.{Chunks}
 use Rattle.evc_def.proofs.Refusals.{not_0}
-use Rattle.evc_map.specs.Maps.{is_present, numbers_of}
 use Rattle.evc_mc.specs.declared.EvcPredicted.{EvcPredicted}
 use Rattle.evc_counts.specs.Counts.{◌plus◌}
 use Rattle.evc_counts.specs.Inner.{AtMost}
 use Rattle.evc_counts.specs.declared.MovedCounts.{MovedCounts}
 use Rattle.evc_counts.proofs.Counts.{nothing_plus, lists_most, most_less, at_most}
-use Rattle.evc_record.specs.Record.{planes, planes_of, source}
-use Rattle.evc_record.proofs.Places.{still_long}
-use Rattle.evc_replay.proofs.Counts.{counts_from, counted_on, counted_stop, counted_end, none_is}
-use Rattle.evc_replay.proofs.Records.{with_target, complete, went_on, stopped, ended}
+use Rattle.evc_record.specs.Record.{target_of, source_of}
+use Rattle.evc_replay.specs.Replay.{records_from, applied}
+use Rattle.evc_replay.proofs.Counts.{counts_over, counted_on, counted_stop, counted_end, none_is}
+use Rattle.evc_replay.proofs.Records.{with_target, left, next_chunk, no_more, complete, went_on, stopped, ended, still_long, all_same, still_same}
 use Rattle.evc_replay.proofs.replay_records.Goals as goal
 
-pub loop-at-init : goal.loop-at-init
-loop-at-init c =
+pub loop-record-init : goal.loop-record-init
+loop-record-init c =
     let a = c.args in
-    let from = source a.h (planes_of a.ref0) (planes_of a.ref1) (is_present a.col_mv) (numbers_of a.col_mv) in
-    let p = c.requires.1 in
-    let n = none_is c.default-counts.result c.default-counts.ensures in
-    (omega arith, omega arith, refl, refl, refl, refl, refl, refl, at_most 0 _ n, ap (λ (d : MovedCounts). d plus counts_from from a.trace.now 13) n ∙ nothing_plus _)
+    let from = source_of a.from.now in
+    let it = c.into_iter-record-iterator.ensures.into_iter_gives in
+    let e = ap (λ (i : Chunks ℕ). i.rest.now) it ∙ c.chunks-record-items.ensures.rest ∙ take_rest a.trace.now 13 in
+    let whole = ap (λ (s : List ℕ). records_from s 0) e ∙ sym (left a.trace.now 13) in
+    let n = none_is c.default-counts.result c.default-counts.ensures in (
+      ap (λ (i : Chunks ℕ). i.size) it ∙ c.chunks-record-items.ensures.size,
+      omega (arith, ap length e, length-drop 13 a.trace.now),
+      c.requires.long_enough,
+      all_same a.target.now,
+      ap (λ (l : List (List ℕ)). applied from l 0 (target_of a.target.now)) whole,
+      at_most 0 _ n,
+      ap (λ (d : MovedCounts). d plus counts_over from (records_from c.into_iter-record-iterator.result.rest.now 0)) n ∙ nothing_plus _ ∙ ap (counts_over from) whole,
+    )
 
-pub replay_record-requires : goal.replay_record-requires
-replay_record-requires c =
-    let i = c.loop-at.invariant in
-    let a = c.args in
-    record { v_value = still_long _ _ (planes a.y.now a.u.now a.v.now) _ i.2 i.3 i.4 c.requires.0; pred0_len = (i.5, i.6) }
+pub replay_record-requires-clause-long_enough : goal.replay_record-requires-clause-long_enough
+replay_record-requires-clause-long_enough c = c.loop-record.invariant.2
 
 pub returns-in-Err : goal.returns-in-Err
 returns-in-Err c =
     let a = c.args in
-    let from = source a.h (planes_of a.ref0) (planes_of a.ref1) (is_present a.col_mv) (numbers_of a.col_mv) in
-    let target = planes c.loop-at.y c.loop-at.u c.loop-at.v in
-    let at = c.loop-at.at in
-    let n = c.answer.ensures in
-    let more = c.loop-at-test.true in
+    let i = c.loop-record.invariant in
+    let l = c.loop-record in
+    let from = source_of a.from.now in
+    let s = c.in-Some.ensures.steps in
+    let bytes = c.in-Some.record.now in
+    let rest = c.next.new.self.rest.now in
+    let chunk = sym (next_chunk l.record-iterator.rest.now bytes rest s.1.0 (s.1.1 ∙ ap (λ (n : ℕ). min n (length l.record-iterator.rest.now)) i.0) s.1.2) in
     let number = ap (λ (p : EvcPredicted). p.code) c.in-Err.ensures.result_value in
+    let n = c.answer.ensures in
     record {
-      v_after = with_target _ _ _ n.0 ∙ stopped from a.trace.now at c.loop-at.index target _ c.record_at-record.ensures more _ c.in-Err.ensures.v_after _ number (not_0 _) ∙ c.loop-at.invariant.7;
-      result_value = n.1 ∙ counted_stop from a.trace.now at c.loop-at.counts _ c.record_at-record.ensures more _ number (not_0 _) ∙ c.loop-at.invariant.9;
+      target_after =
+          with_target _ _ _ n.0 ∙ stopped from bytes (records_from rest 0) l.index (target_of l.target) _ c.in-Err.ensures.target_after _ number (not_0 _)
+          ∙ ap (λ (r : List (List ℕ)). applied from r l.index (target_of l.target)) chunk ∙ i.4;
+      counts =
+          n.1 ∙ counted_stop from l.counts bytes (records_from rest 0) _ number (not_0 _)
+          ∙ ap (λ (r : List (List ℕ)). l.counts plus counts_over from r) chunk ∙ i.6;
+      same_planes = still_same _ _ _ i.3 c.in-Err.ensures.same_planes;
     }
 
--- it was not refused, so it is complete
-pub overflow_add-at : goal.overflow_add-at
-overflow_add-at c =
-    let a = c.args in
-    let from = source a.h (planes_of a.ref0) (planes_of a.ref1) (is_present a.col_mv) (numbers_of a.col_mv) in
-    let room = complete from a.trace.now c.loop-at.at c.loop-at.index (planes c.loop-at.y c.loop-at.u c.loop-at.v) _ c.record_at-record.ensures (sym (ap (λ (p : EvcPredicted). p.code) c.in-Ok.ensures.result_value)) in
-    omega arith
+pub with_lists-counts-requires : goal.with_lists-counts-requires
+with_lists-counts-requires c = let i = c.loop-record.invariant in most_less (2 * c.loop-record.index) _ _ (let k = i.1 in omega arith) i.5
 
-pub loop-at-preserved : goal.loop-at-preserved
-loop-at-preserved c =
-    let i = c.loop-at.invariant in
+pub loop-record-preserved : goal.loop-record-preserved
+loop-record-preserved c =
     let a = c.args in
-    let from = source a.h (planes_of a.ref0) (planes_of a.ref1) (is_present a.col_mv) (numbers_of a.col_mv) in
-    let target = planes c.loop-at.y c.loop-at.u c.loop-at.v in
-    let at = c.loop-at.at in
+    let i = c.loop-record.invariant in
+    let l = c.loop-record in
+    let from = source_of a.from.now in
+    let h = a.from.now.header in
+    let s = c.in-Some.ensures.steps in
+    let bytes = c.in-Some.record.now in
+    let rest = c.next.new.self.rest.now in
+    let chunk = sym (next_chunk l.record-iterator.rest.now bytes rest s.1.0 (s.1.1 ∙ ap (λ (n : ℕ). min n (length l.record-iterator.rest.now)) i.0) s.1.2) in
     let z = sym (ap (λ (p : EvcPredicted). p.code) c.in-Ok.ensures.result_value) in
-    let more = c.loop-at-test.true in
-    let r = c.replay_record.auto in (
-      complete from a.trace.now at c.loop-at.index target _ c.record_at-record.ensures z,
-      (let j = i.1 in omega arith),
-      r.y ∙ i.2,
-      r.u ∙ i.3,
-      r.v ∙ i.4,
-      r.pred0 ∙ i.5,
-      r.pred1 ∙ i.6,
-      went_on from a.trace.now at c.loop-at.index target _ c.record_at-record.ensures more _ c.in-Ok.ensures.v_after z ∙ i.7,
-      most_less (2 * c.loop-at.index + 2) _ _ (omega arith) (subst (AtMost (2 * c.loop-at.index + 2)) (sym c.with_lists-counts.ensures) (lists_most (2 * c.loop-at.index) c.loop-at.counts _ _ i.8)),
-      counted_on from a.trace.now at c.loop-at.counts _ c.record_at-record.ensures more z _ c.in-Ok.ensures.result_value _ c.with_lists-counts.ensures ∙ i.9,
+    let t = target_of l.target in
+    let after = c.in-Ok.ensures.target_after in (
+      s.0 ∙ i.0,
+      omega (arith, i.1, complete from bytes (records_from rest 0) l.index t z, ap length s.1.0, length-append bytes rest),
+      rw after (still_long from bytes t h.pic_w h.pic_h ∙ i.2),
+      still_same _ _ _ i.3 c.in-Ok.ensures.same_planes,
+      went_on from bytes (records_from rest 0) l.index t _ after z ∙ ap (λ (r : List (List ℕ)). applied from r l.index t) chunk ∙ i.4,
+      most_less (2 * l.index + 2) _ _ (omega arith) (subst (AtMost (2 * l.index + 2)) (sym c.with_lists-counts.ensures) (lists_most (2 * l.index) l.counts _ _ i.5)),
+      counted_on from l.counts bytes (records_from rest 0) z _ c.in-Ok.ensures.result_value _ c.with_lists-counts.ensures ∙ ap (λ (r : List (List ℕ)). l.counts plus counts_over from r) chunk ∙ i.6,
     )
 
 pub returns : goal.returns
 returns c =
     let a = c.args in
-    let from = source a.h (planes_of a.ref0) (planes_of a.ref1) (is_present a.col_mv) (numbers_of a.col_mv) in
+    let i = c.loop-record.invariant in
+    let l = c.loop-record in
+    let from = source_of a.from.now in
+    let e = c.in-None.ensures.steps.1.0 in
     let n = c.answer-2.ensures in
     record {
-      v_after = with_target _ _ _ n.0 ∙ ended from a.trace.now c.loop-at.at c.loop-at.index (planes c.loop-at.y c.loop-at.u c.loop-at.v) c.loop-at-test.false ∙ c.loop-at.invariant.7;
-      result_value = n.1 ∙ counted_end from a.trace.now c.loop-at.at c.loop-at.counts c.loop-at-test.false ∙ c.loop-at.invariant.9;
+      target_after = with_target _ _ _ n.0 ∙ ended from l.record-iterator.rest.now 0 l.index (target_of l.target) (omega (arith, e)) ∙ i.4;
+      counts = n.1 ∙ counted_end from l.counts ∙ ap (λ (r : List (List ℕ)). l.counts plus counts_over from r) (sym (no_more l.record-iterator.rest.now 0 (omega (arith, e)))) ∙ i.6;
+      same_planes = i.3;
     }
