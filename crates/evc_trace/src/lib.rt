@@ -1,13 +1,13 @@
 #![tactic(auto)]
 
-ghost use Rattle.std.specs.Prelude.{◌≡◌, ◌++◌, ◌+◌, ◌≤◌, length};
+ghost use Rattle.std.specs.Prelude.{◌≡◌, ◌+◌, ◌≤◌, length};
 ghost use Rattle.evc_def.specs.Refusals.{code_of};
-ghost use Rattle.evc_bytes.specs.Bytes.{bytes_of};
-ghost use Rattle.evc_bytes.specs.Inner.{written};
-ghost use Rattle.evc_trace.specs.Format.{version, count_len, header_len, mark, header_bytes, is_trace, header_of, overwritten, write_header_code, write_header_after};
+ghost use Rattle.evc_bytes.specs.Inner.{Puts};
+ghost use Rattle.evc_trace.specs.Format.{version, count_len, header_len, header_bytes, is_trace, header_of, overwritten, write_header_code, write_header_after};
 ghost use Rattle.evc_trace.specs.Format.{record_len, mv_of, mv_bytes, record_bytes, record_of, is_well_formed, write_record_code, write_record_after};
 ghost use Rattle.evc_trace.specs.declared.TraceHeader.{TraceHeader};
 
+use evc_bytes::Writer;
 use evc_def::{EvcMv, Picture, Refusal};
 
 pub const HEADER_LEN: usize = 13;
@@ -42,20 +42,12 @@ pub struct EvcTraceRecord {
 
 // ---- fields
 
-fn put_pair(out: &mut [u8], at: usize, a: u16, b: u16)
-    requires { at + 4 ≤ length out.old }
-    ensures { out.new ≡ written out.old at (bytes_of 2 a ++ bytes_of 2 b) }
+fn put_mv(bytes: &mut Writer, mv: EvcMv)
+    requires { bytes.old.at + 4 ≤ length bytes.old.out.now }
+    ensures { Puts bytes.old bytes.new (mv_bytes mv) }
 {
-    evc_bytes::put_u16(out, at, a);
-    evc_bytes::put_u16(out, at + 2, b);
-}
-
-fn put_mv(out: &mut [u8], at: usize, mv: EvcMv)
-    requires { at + 4 ≤ length out.old }
-    ensures { out.new ≡ written out.old at (mv_bytes mv) }
-{
-    evc_bytes::put_i16(out, at, mv.x);
-    evc_bytes::put_i16(out, at + 2, mv.y);
+    bytes.put_i16(mv.x);
+    bytes.put_i16(mv.y);
 }
 
 fn mv_at(s: &[u8], at: usize) -> EvcMv
@@ -126,38 +118,38 @@ pub fn read_record(s: &[u8]) -> EvcTraceRecord
 
 // ---- the writers
 
-fn put_mark(out: &mut [u8])
-    requires { 5 ≤ length out.old }
-    ensures { out.new ≡ written out.old 0 (mark version) }
-{
-    evc_bytes::put_u8(out, 0, b'I');
-    evc_bytes::put_u8(out, 1, b'P');
-    evc_bytes::put_u8(out, 2, b'T');
-    evc_bytes::put_u16(out, 3, VERSION);
-}
-
 fn put_header(pic_w: u16, pic_h: u16, poc: u16, list_poc0: u16, out: &mut [u8])
     requires { header_len count_len ≤ length out.old }
     ensures { (
         let h : TraceHeader = record { pic_w = pic_w; pic_h = pic_h; poc = poc; list_poc0 = list_poc0 } in
         out.new ≡ overwritten (header_bytes version count_len h) out.old) }
 {
-    put_mark(out);
-    put_pair(out, 5, pic_w, pic_h);
-    put_pair(out, 9, poc, list_poc0);
+    let mut bytes = Writer::new(out);
+    bytes.put_u8(b'I');
+    bytes.put_u8(b'P');
+    bytes.put_u8(b'T');
+    bytes.put_u16(VERSION);
+    bytes.put_u16(pic_w);
+    bytes.put_u16(pic_h);
+    bytes.put_u16(poc);
+    bytes.put_u16(list_poc0);
 }
 
 fn put_record(r: EvcTraceRecord, out: &mut [u8])
     requires { record_len count_len ≤ length out.old }
     ensures { out.new ≡ overwritten (record_bytes count_len r) out.old }
 {
-    put_pair(out, 0, r.x, r.y);
-    put_pair(out, 4, r.w, r.h);
-    evc_bytes::put_u8(out, 8, r.kind);
-    put_mv(out, 9, r.mv0);
-    put_mv(out, 13, r.mv1);
-    put_pair(out, 17, r.poc0, r.poc1);
-    evc_bytes::put_u8(out, 21, 0);
+    let mut bytes = Writer::new(out);
+    bytes.put_u16(r.x);
+    bytes.put_u16(r.y);
+    bytes.put_u16(r.w);
+    bytes.put_u16(r.h);
+    bytes.put_u8(r.kind);
+    put_mv(&mut bytes, r.mv0);
+    put_mv(&mut bytes, r.mv1);
+    bytes.put_u16(r.poc0);
+    bytes.put_u16(r.poc1);
+    bytes.put_u8(0);
 }
 
 pub fn write_header(
