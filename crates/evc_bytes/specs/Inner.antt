@@ -1,7 +1,12 @@
--- What a writing step leaves.
+-- What a reading step leaves, and a writing step.
 use Rattle.std.specs.Prelude.{◌≡◌, ◌+◌, ℕ, List, length}
 use Rattle.std.proofs.lemmas.List.Edits.{sets}
+use Rattle.evc_bytes.specs.declared.Reader.{Reader}
 use Rattle.evc_bytes.specs.declared.Writer.{Writer}
+
+-- a reader n bytes on
+abbrev pub moved : Reader → ℕ → Reader
+moved r n = record r { at = r.at + n }
 
 -- a buffer with these bytes in it from `at` on
 unfoldable pub written : List ℕ → ℕ → List ℕ → List ℕ

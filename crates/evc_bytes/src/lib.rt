@@ -1,11 +1,11 @@
 //! Numbers of sixteen bits in bytes, "low byte first": read and written here alone.
 #![tactic(auto)]
 
-ghost use Rattle.std.specs.Prelude.{◌≡◌, [], ◌∷◌, ◌+◌, ◌≤◌, ◌<◌, length};
+ghost use Rattle.std.specs.Prelude.{◌≡◌, [], ◌∷◌, ◌+◌, ◌≤◌, ◌<◌, get_or, length};
 ghost use Rattle.evc_int.specs.Whole.{◌modulo◌};
 ghost use Rattle.evc_int.specs.LowBits.{signed16};
 ghost use Rattle.evc_bytes.specs.Bytes.{bytes_of, number_at};
-ghost use Rattle.evc_bytes.specs.Inner.{Puts};
+ghost use Rattle.evc_bytes.specs.Inner.{moved, Puts};
 
 // ---- reading
 
@@ -21,6 +21,48 @@ pub fn i16_at(s: &[u8], at: usize) -> i16
     ensures { result ≡ signed16 (number_at 2 s.now at) }
 {
     i16::from_le_bytes([s[at], s[at + 1]])
+}
+
+// Takes numbers from bytes, each behind the one before.
+#[derive(Clone, Copy)]
+pub struct Reader<'a> {
+    bytes: &'a [u8],
+    at: usize,
+}
+
+impl<'a> Reader<'a> {
+    // From the place `at` on.
+    pub fn new(bytes: &'a [u8], at: usize) -> Reader<'a>
+        ensures { (result.bytes.now ≡ bytes.now) × (result.at ≡ at) }
+    {
+        Reader { bytes, at }
+    }
+
+    pub fn take_u8(&mut self) -> u8
+        requires { self.old.at < length self.old.bytes.now }
+        ensures value { result ≡ get_or self.old.bytes.now self.old.at 0 }
+        ensures moved { self.new ≡ moved self.old 1 }
+    {
+        let byte = self.bytes[self.at];
+        self.at += 1;
+        byte
+    }
+
+    pub fn take_u16(&mut self) -> u16
+        requires { self.old.at + 2 ≤ length self.old.bytes.now }
+        ensures value { result ≡ number_at 2 self.old.bytes.now self.old.at }
+        ensures moved { self.new ≡ moved self.old 2 }
+    {
+        u16::from_le_bytes([self.take_u8(), self.take_u8()])
+    }
+
+    pub fn take_i16(&mut self) -> i16
+        requires { self.old.at + 2 ≤ length self.old.bytes.now }
+        ensures value { result ≡ signed16 (number_at 2 self.old.bytes.now self.old.at) }
+        ensures moved { self.new ≡ moved self.old 2 }
+    {
+        self.take_u16().cast_signed()
+    }
 }
 
 // ---- writing

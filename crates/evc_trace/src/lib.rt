@@ -2,17 +2,20 @@
 
 ghost use Rattle.std.specs.Prelude.{◌≡◌, ◌+◌, ◌≤◌, length};
 ghost use Rattle.evc_def.specs.Refusals.{code_of};
-ghost use Rattle.evc_bytes.specs.Inner.{Puts};
+ghost use Rattle.evc_bytes.specs.Inner.{moved, Puts};
 ghost use Rattle.evc_trace.specs.Format.{version, count_len, header_len, header_bytes, is_trace, header_of, overwritten, write_header_code, write_header_after};
 ghost use Rattle.evc_trace.specs.Format.{record_len, mv_of, mv_bytes, record_bytes, record_of, is_well_formed, write_record_code, write_record_after};
 ghost use Rattle.evc_trace.specs.declared.TraceHeader.{TraceHeader};
 
-use evc_bytes::Writer;
+use evc_bytes::{Reader, Writer};
 use evc_def::{EvcMv, Picture, Refusal};
 
 pub const HEADER_LEN: usize = 13;
 
 pub const RECORD_LEN: usize = 22;
+
+// The letters and the version.
+const MARK_LEN: usize = 5;
 
 const VERSION: u16 = 1;
 
@@ -50,13 +53,14 @@ fn put_mv(bytes: &mut Writer, mv: EvcMv)
     bytes.put_i16(mv.y);
 }
 
-fn mv_at(s: &[u8], at: usize) -> EvcMv
-    requires { at + 4 ≤ length s.now }
-    ensures { result ≡ mv_of s.now at }
+fn take_mv(bytes: &mut Reader) -> EvcMv
+    requires { bytes.old.at + 4 ≤ length bytes.old.bytes.now }
+    ensures value { result ≡ mv_of bytes.old.bytes.now bytes.old.at }
+    ensures moved { bytes.new ≡ moved bytes.old 4 }
 {
     EvcMv {
-        x: evc_bytes::i16_at(s, at),
-        y: evc_bytes::i16_at(s, at + 2),
+        x: bytes.take_i16(),
+        y: bytes.take_i16(),
     }
 }
 
@@ -87,15 +91,12 @@ pub fn read_header(s: &[u8]) -> TraceHeader
     requires { header_len count_len ≤ length s.now }
     ensures { result ≡ header_of count_len s.now }
 {
-    let pic_w = evc_bytes::u16_at(s, 5);
-    let pic_h = evc_bytes::u16_at(s, 7);
-    let poc = evc_bytes::u16_at(s, 9);
-    let list_poc0 = evc_bytes::u16_at(s, 11);
+    let mut bytes = Reader::new(s, MARK_LEN);
     TraceHeader {
-        pic_w: pic_w as u32,
-        pic_h: pic_h as u32,
-        poc: poc as u32,
-        list_poc0: list_poc0 as u32,
+        pic_w: u32::from(bytes.take_u16()),
+        pic_h: u32::from(bytes.take_u16()),
+        poc: u32::from(bytes.take_u16()),
+        list_poc0: u32::from(bytes.take_u16()),
     }
 }
 
@@ -103,16 +104,17 @@ pub fn read_record(s: &[u8]) -> EvcTraceRecord
     requires { record_len count_len ≤ length s.now }
     ensures { result ≡ record_of count_len s.now }
 {
+    let mut bytes = Reader::new(s, 0);
     EvcTraceRecord {
-        x: evc_bytes::u16_at(s, 0),
-        y: evc_bytes::u16_at(s, 2),
-        w: evc_bytes::u16_at(s, 4),
-        h: evc_bytes::u16_at(s, 6),
-        kind: s[8],
-        mv0: mv_at(s, 9),
-        mv1: mv_at(s, 13),
-        poc0: evc_bytes::u16_at(s, 17),
-        poc1: evc_bytes::u16_at(s, 19),
+        x: bytes.take_u16(),
+        y: bytes.take_u16(),
+        w: bytes.take_u16(),
+        h: bytes.take_u16(),
+        kind: bytes.take_u8(),
+        mv0: take_mv(&mut bytes),
+        mv1: take_mv(&mut bytes),
+        poc0: bytes.take_u16(),
+        poc1: bytes.take_u16(),
     }
 }
 
