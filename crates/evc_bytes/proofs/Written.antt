@@ -1,11 +1,10 @@
 -- Runs of bytes written one after the other. Assumes nothing.
-use Prim.Native.Nat.{ℕ, suc, ◌+◌}
-use mathlib.Core.List.{List, [], ◌∷◌, ◌++◌}
-use mathlib.Core.Path.{◌≡◌, refl, sym, ◌∙◌}
-use native.Mathlib.Nat.{add-zero, add-suc, suc-add}
-use lib.ListN.{length, set}
-use lib.Seq.{sets}
-use Rattle.evc_bytes.specs.Inner.{written}
+use Rattle.std.proofs.Common.{◌≡◌, refl, sym, ◌∙◌, ℕ, suc, ◌+◌, add-zero, add-suc, arith, List, [], ◌∷◌, ◌++◌, length, length-append}
+use Rattle.std.proofs.lemmas.List.Edits.{sets}
+use native.Mathlib.Nat.{suc-add}
+use lib.ListN.{set}
+use Rattle.evc_bytes.specs.Inner.{written, Puts}
+use Rattle.evc_bytes.specs.declared.Writer.{Writer}
 
 pub stored : (d : List ℕ) (at b : ℕ) → set d at b ≡ written d at (b ∷ [])
 unfolding written
@@ -17,7 +16,15 @@ sets_append d at (x ∷ xs) ys =
     let e : at + suc (length xs) ≡ suc at + length xs = add-suc at (length xs) ∙ sym (suc-add at (length xs)) in
     rw e (sets_append (set d at x) (suc at) xs ys)
 
--- one run behind the other
-pub joined : (d e f : List ℕ) (at : ℕ) (xs ys : List ℕ) → e ≡ written d at xs → f ≡ written e (at + length xs) ys → f ≡ written d at (xs ++ ys)
+written_append : (d e f : List ℕ) (at next : ℕ) (xs ys : List ℕ) → e ≡ written d at xs → next ≡ at + length xs → f ≡ written e next ys → f ≡ written d at (xs ++ ys)
 unfolding written
-joined d e f at xs ys p q = q ∙ rw p (sets_append d at xs ys)
+written_append d e f at next xs ys p n q = q ∙ rw (p, n) (sets_append d at xs ys)
+
+-- one run behind the other
+pub both : (u v w : Writer) (xs ys : List ℕ) → Puts u v xs → Puts v w ys → Puts u w (xs ++ ys)
+both u v w xs ys p q = record {
+  same_buffer = q.same_buffer ∙ p.same_buffer;
+  put = written_append _ _ _ _ _ _ _ p.put p.behind q.put;
+  same_length = q.same_length ∙ p.same_length;
+  behind = omega (arith, p.behind, q.behind, length-append xs ys);
+}

@@ -1,66 +1,109 @@
 //! Numbers of sixteen bits in bytes, "low byte first": read and written here alone.
 #![tactic(auto)]
 
-ghost use Rattle.std.specs.Prelude.{◌≡◌, [], ◌∷◌, ◌+◌, ◌≤◌, ◌<◌, length};
+ghost use Rattle.std.specs.Prelude.{◌≡◌, [], ◌∷◌, ◌+◌, ◌≤◌, ◌<◌, get_or, length};
 ghost use Rattle.evc_int.specs.Whole.{◌modulo◌};
 ghost use Rattle.evc_int.specs.LowBits.{signed16};
 ghost use Rattle.evc_bytes.specs.Bytes.{bytes_of, number_at};
-ghost use Rattle.evc_bytes.specs.Inner.{written};
+ghost use Rattle.evc_bytes.specs.Inner.{moved, Puts};
 
 // ---- reading
-
-fn wide(b: u8) -> u16
-    ensures { (result ≡ b) × (result < 256) }
-{
-    b as u16
-}
 
 pub fn u16_at(s: &[u8], at: usize) -> u16
     requires { at + 2 ≤ length s.now }
     ensures { result ≡ number_at 2 s.now at }
 {
-    let low = wide(s[at]);
-    let high = wide(s[at + 1]);
-    low + 256 * high
+    u16::from_le_bytes([s[at], s[at + 1]])
 }
 
 pub fn i16_at(s: &[u8], at: usize) -> i16
     requires { at + 2 ≤ length s.now }
     ensures { result ≡ signed16 (number_at 2 s.now at) }
 {
-    evc_int::low16(u16_at(s, at) as i32)
+    i16::from_le_bytes([s[at], s[at + 1]])
+}
+
+// Takes numbers from bytes, each behind the one before.
+#[derive(Clone, Copy)]
+pub struct Reader<'a> {
+    bytes: &'a [u8],
+    at: usize,
+}
+
+impl<'a> Reader<'a> {
+    // From the place `at` on.
+    pub fn new(bytes: &'a [u8], at: usize) -> Reader<'a>
+        ensures { (result.bytes.now ≡ bytes.now) × (result.at ≡ at) }
+    {
+        Reader { bytes, at }
+    }
+
+    pub fn take_u8(&mut self) -> u8
+        requires { self.old.at < length self.old.bytes.now }
+        ensures value { result ≡ get_or self.old.bytes.now self.old.at 0 }
+        ensures moved { self.new ≡ moved self.old 1 }
+    {
+        let byte = self.bytes[self.at];
+        self.at += 1;
+        byte
+    }
+
+    pub fn take_u16(&mut self) -> u16
+        requires { self.old.at + 2 ≤ length self.old.bytes.now }
+        ensures value { result ≡ number_at 2 self.old.bytes.now self.old.at }
+        ensures moved { self.new ≡ moved self.old 2 }
+    {
+        u16::from_le_bytes([self.take_u8(), self.take_u8()])
+    }
+
+    pub fn take_i16(&mut self) -> i16
+        requires { self.old.at + 2 ≤ length self.old.bytes.now }
+        ensures value { result ≡ signed16 (number_at 2 self.old.bytes.now self.old.at) }
+        ensures moved { self.new ≡ moved self.old 2 }
+    {
+        self.take_u16().cast_signed()
+    }
 }
 
 // ---- writing
 
-pub fn put_u8(out: &mut [u8], at: usize, v: u8)
-    requires { at < length out.old }
-    ensures { out.new ≡ written out.old at (v ∷ []) }
-{
-    out[at] = v;
+// Puts bytes into a buffer, each run behind the one before.
+#[derive(Drop)]
+pub struct Writer<'a> {
+    out: &'a mut [u8],
+    at: usize,
 }
 
-pub fn put_u16(out: &mut [u8], at: usize, v: u16)
-    requires { at + 2 ≤ length out.old }
-    ensures { out.new ≡ written out.old at (bytes_of 2 v) }
-{
-    put_u8(out, at, (v % 256) as u8);
-    put_u8(out, at + 1, (v / 256 % 256) as u8);
-}
-
-// The sixteen bits of a signed number.
-pub fn bits16(v: i16) -> u16
-    ensures { result ≡ v modulo 65536 }
-{
-    if v < 0 {
-        return (v as i32 + 65536) as u16;
+impl<'a> Writer<'a> {
+    // From the start of the buffer on.
+    pub fn new(out: &'a mut [u8]) -> Writer<'a>
+        ensures same_buffer { result.out.ghost_name ≡ out.entry.ghost_name }
+        ensures nothing_yet { (result.out.now ≡ out.old) × (result.at ≡ 0) }
+    {
+        Writer { out, at: 0 }
     }
-    v as u16
-}
 
-pub fn put_i16(out: &mut [u8], at: usize, v: i16)
-    requires { at + 2 ≤ length out.old }
-    ensures { out.new ≡ written out.old at (bytes_of 2 (v modulo 65536)) }
-{
-    put_u16(out, at, bits16(v));
+    pub fn put_u8(&mut self, v: u8)
+        requires { self.old.at < length self.old.out.now }
+        ensures { Puts self.old self.new (v ∷ []) }
+    {
+        self.out[self.at] = v;
+        self.at += 1;
+    }
+
+    pub fn put_u16(&mut self, v: u16)
+        requires { self.old.at + 2 ≤ length self.old.out.now }
+        ensures { Puts self.old self.new (bytes_of 2 v) }
+    {
+        let [low, high] = v.to_le_bytes();
+        self.put_u8(low);
+        self.put_u8(high);
+    }
+
+    pub fn put_i16(&mut self, v: i16)
+        requires { self.old.at + 2 ≤ length self.old.out.now }
+        ensures { Puts self.old self.new (bytes_of 2 (v modulo 65536)) }
+    {
+        self.put_u16(v.cast_unsigned());
+    }
 }

@@ -1,18 +1,21 @@
 #![tactic(auto)]
 
-ghost use Rattle.std.specs.Prelude.{◌≡◌, ◌++◌, ◌+◌, ◌≤◌, length};
+ghost use Rattle.std.specs.Prelude.{◌≡◌, ◌+◌, ◌≤◌, length};
 ghost use Rattle.evc_def.specs.Refusals.{code_of};
-ghost use Rattle.evc_bytes.specs.Bytes.{bytes_of};
-ghost use Rattle.evc_bytes.specs.Inner.{written};
-ghost use Rattle.evc_trace.specs.Format.{version, count_len, header_len, mark, header_bytes, is_trace, header_of, overwritten, write_header_code, write_header_after};
+ghost use Rattle.evc_bytes.specs.Inner.{moved, Puts};
+ghost use Rattle.evc_trace.specs.Format.{version, count_len, header_len, header_bytes, is_trace, header_of, overwritten, write_header_code, write_header_after};
 ghost use Rattle.evc_trace.specs.Format.{record_len, mv_of, mv_bytes, record_bytes, record_of, is_well_formed, write_record_code, write_record_after};
 ghost use Rattle.evc_trace.specs.declared.TraceHeader.{TraceHeader};
 
+use evc_bytes::{Reader, Writer};
 use evc_def::{EvcMv, Picture, Refusal};
 
 pub const HEADER_LEN: usize = 13;
 
 pub const RECORD_LEN: usize = 22;
+
+// The letters and the version.
+const MARK_LEN: usize = 5;
 
 const VERSION: u16 = 1;
 
@@ -70,29 +73,22 @@ impl TryFrom<u8> for Kind {
 
 // ---- fields
 
-fn put_pair(out: &mut [u8], at: usize, a: u16, b: u16)
-    requires { at + 4 ≤ length out.old }
-    ensures { out.new ≡ written out.old at (bytes_of 2 a ++ bytes_of 2 b) }
+fn put_mv(bytes: &mut Writer, mv: EvcMv)
+    requires { bytes.old.at + 4 ≤ length bytes.old.out.now }
+    ensures { Puts bytes.old bytes.new (mv_bytes mv) }
 {
-    evc_bytes::put_u16(out, at, a);
-    evc_bytes::put_u16(out, at + 2, b);
+    bytes.put_i16(mv.x);
+    bytes.put_i16(mv.y);
 }
 
-fn put_mv(out: &mut [u8], at: usize, mv: EvcMv)
-    requires { at + 4 ≤ length out.old }
-    ensures { out.new ≡ written out.old at (mv_bytes mv) }
-{
-    evc_bytes::put_i16(out, at, mv.x);
-    evc_bytes::put_i16(out, at + 2, mv.y);
-}
-
-fn mv_at(s: &[u8], at: usize) -> EvcMv
-    requires { at + 4 ≤ length s.now }
-    ensures { result ≡ mv_of s.now at }
+fn take_mv(bytes: &mut Reader) -> EvcMv
+    requires { bytes.old.at + 4 ≤ length bytes.old.bytes.now }
+    ensures value { result ≡ mv_of bytes.old.bytes.now bytes.old.at }
+    ensures moved { bytes.new ≡ moved bytes.old 4 }
 {
     EvcMv {
-        x: evc_bytes::i16_at(s, at),
-        y: evc_bytes::i16_at(s, at + 2),
+        x: bytes.take_i16(),
+        y: bytes.take_i16(),
     }
 }
 
@@ -126,15 +122,12 @@ pub fn read_header(s: &[u8]) -> TraceHeader
     requires { header_len count_len ≤ length s.now }
     ensures { result ≡ header_of count_len s.now }
 {
-    let pic_w = evc_bytes::u16_at(s, 5);
-    let pic_h = evc_bytes::u16_at(s, 7);
-    let poc = evc_bytes::u16_at(s, 9);
-    let list_poc0 = evc_bytes::u16_at(s, 11);
+    let mut bytes = Reader::new(s, MARK_LEN);
     TraceHeader {
-        pic_w: pic_w as u32,
-        pic_h: pic_h as u32,
-        poc: poc as u32,
-        list_poc0: list_poc0 as u32,
+        pic_w: u32::from(bytes.take_u16()),
+        pic_h: u32::from(bytes.take_u16()),
+        poc: u32::from(bytes.take_u16()),
+        list_poc0: u32::from(bytes.take_u16()),
     }
 }
 
@@ -142,30 +135,21 @@ pub fn read_record(s: &[u8]) -> EvcTraceRecord
     requires { record_len count_len ≤ length s.now }
     ensures { result ≡ record_of count_len s.now }
 {
+    let mut bytes = Reader::new(s, 0);
     EvcTraceRecord {
-        x: evc_bytes::u16_at(s, 0),
-        y: evc_bytes::u16_at(s, 2),
-        w: evc_bytes::u16_at(s, 4),
-        h: evc_bytes::u16_at(s, 6),
-        kind: s[8],
-        mv0: mv_at(s, 9),
-        mv1: mv_at(s, 13),
-        poc0: evc_bytes::u16_at(s, 17),
-        poc1: evc_bytes::u16_at(s, 19),
+        x: bytes.take_u16(),
+        y: bytes.take_u16(),
+        w: bytes.take_u16(),
+        h: bytes.take_u16(),
+        kind: bytes.take_u8(),
+        mv0: take_mv(&mut bytes),
+        mv1: take_mv(&mut bytes),
+        poc0: bytes.take_u16(),
+        poc1: bytes.take_u16(),
     }
 }
 
 // ---- the writers
-
-fn put_mark(out: &mut [u8])
-    requires { 5 ≤ length out.old }
-    ensures { out.new ≡ written out.old 0 (mark version) }
-{
-    evc_bytes::put_u8(out, 0, b'I');
-    evc_bytes::put_u8(out, 1, b'P');
-    evc_bytes::put_u8(out, 2, b'T');
-    evc_bytes::put_u16(out, 3, VERSION);
-}
 
 fn put_header(pic_w: u16, pic_h: u16, poc: u16, list_poc0: u16, out: &mut [u8])
     requires { header_len count_len ≤ length out.old }
@@ -173,22 +157,32 @@ fn put_header(pic_w: u16, pic_h: u16, poc: u16, list_poc0: u16, out: &mut [u8])
         let h : TraceHeader = record { pic_w = pic_w; pic_h = pic_h; poc = poc; list_poc0 = list_poc0 } in
         out.new ≡ overwritten (header_bytes version count_len h) out.old) }
 {
-    put_mark(out);
-    put_pair(out, 5, pic_w, pic_h);
-    put_pair(out, 9, poc, list_poc0);
+    let mut bytes = Writer::new(out);
+    bytes.put_u8(b'I');
+    bytes.put_u8(b'P');
+    bytes.put_u8(b'T');
+    bytes.put_u16(VERSION);
+    bytes.put_u16(pic_w);
+    bytes.put_u16(pic_h);
+    bytes.put_u16(poc);
+    bytes.put_u16(list_poc0);
 }
 
 fn put_record(r: EvcTraceRecord, out: &mut [u8])
     requires { record_len count_len ≤ length out.old }
     ensures { out.new ≡ overwritten (record_bytes count_len r) out.old }
 {
-    put_pair(out, 0, r.x, r.y);
-    put_pair(out, 4, r.w, r.h);
-    evc_bytes::put_u8(out, 8, r.kind);
-    put_mv(out, 9, r.mv0);
-    put_mv(out, 13, r.mv1);
-    put_pair(out, 17, r.poc0, r.poc1);
-    evc_bytes::put_u8(out, 21, 0);
+    let mut bytes = Writer::new(out);
+    bytes.put_u16(r.x);
+    bytes.put_u16(r.y);
+    bytes.put_u16(r.w);
+    bytes.put_u16(r.h);
+    bytes.put_u8(r.kind);
+    put_mv(&mut bytes, r.mv0);
+    put_mv(&mut bytes, r.mv1);
+    bytes.put_u16(r.poc0);
+    bytes.put_u16(r.poc1);
+    bytes.put_u8(0);
 }
 
 pub fn write_header(

@@ -1,5 +1,5 @@
 -- The program's loop: what its turns have read and written, and how it ends. Assumes nothing.
-use Rattle.std.proofs.Common.{List, [], ◌++◌, ℕ, ◌≡◌, ◌+◌, ◌-◌, ◌*◌, ◌%◌, ◌^◌, ◌<◌, ◌≤◌, true, false, Option, Some, None, IfSome, arith, refl, sym, ap, ◌∙◌, subst, append-nil, append_assoc, length, length-append}
+use Rattle.std.proofs.Common.{Bool, List, [], ◌++◌, ℕ, ◌≡◌, ◌+◌, ◌-◌, ◌*◌, ◌%◌, ◌^◌, ◌<◌, true, false, Option, Some, None, IfSome, arith, refl, sym, ap, ◌∙◌, subst, append-nil, append_assoc, length, length-append}
 use Rattle.std.specs.Io.KnownBytes.{Appends, Consumes, IsAtEnd}
 use Rattle.mv_clip_text.specs.Records.{lines, text}
 use Rattle.mv_clip_text.specs.Program.{header, ChunkAnswered}
@@ -25,12 +25,12 @@ both unread left before after after' k d c h =
     (append_assoc header (text d.bytes) (text c) ∙ ap (λ (l : List ℕ). header ++ l) (sym (chunks d.bytes c whole)))
     (appends_both before after after' (header ++ text d.bytes) (text c) d.answered h)
 
-pub one_more : (unread left left' before after after' : Option (List ℕ)) (k : ℕ) → Done unread left before after k → ChunkAnswered left left' after after' true → Done unread left' before after' (k + 1)
-one_more unread left left' before after after' k d c = record {
+pub one_more : (unread left left' before after after' : Option (List ℕ)) (k : ℕ) (full : Bool) → Done unread left before after k → ChunkAnswered left left' after after' full → full ≡ true → Done unread left' before after' (k + 1)
+one_more unread left left' before after after' k full d c e = record {
   bytes = d.bytes ++ c.chunk;
   taken = consumes_both unread left left' d.bytes c.chunk d.taken c.taken;
   answered = both unread left before after after' k d c.chunk c.answered;
-  long = omega (arith, d.long, c.long refl, length-append d.bytes c.chunk);
+  long = omega (arith, d.long, c.long e, length-append d.bytes c.chunk);
 }
 
 -- what was taken is all that there was
@@ -38,16 +38,10 @@ all_of : (s : List ℕ) (left : Option (List ℕ)) (t : List ℕ) → Consumes (
 all_of s None t p q = absurd p
 all_of s (Some r) t p q = sym (p ∙ ap (λ (l : List ℕ). t ++ l) q ∙ append-nil t)
 
-pub last : (unread left left' before after after' : Option (List ℕ)) (k : ℕ) → Done unread left before after k → ChunkAnswered left left' after after' false → IfSome unread (λ s. length s < 49152 * (2 ^ 64 - 1) → Appends before after' (header ++ text s))
-last None left left' before after after' k d c = tt
-last (Some s) left left' before after after' k d c = λ h.
+pub last : (unread left left' before after after' : Option (List ℕ)) (k : ℕ) (full : Bool) → Done unread left before after k → ChunkAnswered left left' after after' full → full ≡ false → IfSome unread (λ s. length s < 49152 * (2 ^ 64 - 1) → Appends before after' (header ++ text s))
+last None left left' before after after' k full d c e = tt
+last (Some s) left left' before after after' k full d c e = λ h.
     subst
     (λ (l : List ℕ). Appends before after' (header ++ text l))
-    (all_of s left' (d.bytes ++ c.chunk) (consumes_both (Some s) left left' d.bytes c.chunk d.taken c.taken) (c.ended refl))
+    (all_of s left' (d.bytes ++ c.chunk) (consumes_both (Some s) left left' d.bytes c.chunk d.taken c.taken) (c.ended e))
     (both (Some s) left before after after' k d c.chunk c.answered)
-
--- no input that is shorter lasts for all the turns
-pub enough : (unread left before after : Option (List ℕ)) (k : ℕ) → Done unread left before after k → 2 ^ 64 - 1 ≤ k → IfSome unread (λ s. length s < 49152 * (2 ^ 64 - 1) → Appends before after (header ++ text s))
-enough None left before after k d m = tt
-enough (Some s) None before after k d m = absurd d.taken
-enough (Some s) (Some r) before after k d m = λ h. absurd (omega (arith, h, m, d.long, ap length d.taken, length-append d.bytes r))

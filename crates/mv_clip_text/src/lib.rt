@@ -82,8 +82,8 @@ fn print_text<W: Write>(out: &mut W, records: &[u8]) -> io::Result<()>
 
 // ---- the program
 
-// Reads until the buffer is full or the input ends, and returns how many bytes that were: of an input that ends, `read_exact` does not tell, and
-// `read_to_end` takes memory, which a library here does not.
+// Reads until the buffer is full or the input ends, and returns how many bytes that were. Of an input that ends, `read_exact` does not tell;
+// `read_to_end` needs an allocator, for which `run` does not ask. std's `read_exact` counts its place in the same way.
 fn read_full<R: Read>(input: &mut R, bytes: &mut [u8]) -> io::Result<usize>
     ensures upper_bound { IfOk result (λ n. n ≤ length bytes.new) }
     ensures taken { IfOk result (λ n. Consumes (R.remaining input.old) (R.remaining input.new) (take n bytes.new)) }
@@ -116,7 +116,7 @@ pub fn run<R: Read, W: Write>(input: &mut R, out: &mut W) -> io::Result<()>
         Appends (W.contents out.old) (W.contents out.new) (header ++ text s))) }
 {
     out.write_all(b"answer mvx mvy\n")?;
-    for k in 0..u64::MAX {
+    for _ in 0..u64::MAX {
         if !run_chunk(input, out)? {
             break;
         }

@@ -16,15 +16,6 @@ use Rattle.evc_camera.specs.declared.Sums.{Sums}
 use Rattle.evc_camera.specs.Camera.{with_mv}
 use Rattle.evc_camera.proofs.Units.{sum_fits}
 use Rattle.evc_camera.proofs.add_mv.Goals as goal
-use Rattle.evc_camera.proofs.add_mv.Lts as place
-use Rattle.evc_camera.proofs.add_mv.Reads.{Pre, Post}
-use Rattle.evc_camera.proofs.add_mv.Tie.{the-claims as claims}
-
-x_fits : (c : place.After-component claims Pre Post) → SFits w16 c.args.mv.x
-x_fits c = search rules
-
-y_fits : (c : place.After-component2 claims Pre Post) → SFits w16 c.args.mv.y
-y_fits c = search rules
 
 -- a component that does not count adds nothing
 kept : (z : ℤ) → z +ℤ pos 0 ≡ z
@@ -37,8 +28,10 @@ made s false mv x y p q = rw (p ∙ kept s.x, q ∙ kept s.y, add-zero s.units)
 
 pub returns : goal.returns
 returns c =
-    let v = simp (to_z-of_z (x_fits c.before.before.before.before.before.before)) at c.component.ensures in
-    let w = simp (to_z-of_z (y_fits c.before.before)) at c.component-2.ensures in
+    let across : SFits w16 c.args.mv.x = search rules in
+    let down : SFits w16 c.args.mv.y = search rules in
+    let v = simp (to_z-of_z across) at c.component.ensures in
+    let w = simp (to_z-of_z down) at c.component-2.ensures in
     let x = simp (to_z-of_z (sum_fits c.args.s.x c.requires.across), res w16 {z = c.component.result} c.component.type_inv) at c.add.ensures in
     let y = simp (to_z-of_z (sum_fits c.args.s.y c.requires.down), res w16 {z = c.component-2.result} c.component-2.type_inv) at c.add-2.ensures in
     simp (res w64 {z = c.add.result} c.add.type_inv, res w64 {z = c.add-2.result} c.add-2.type_inv)

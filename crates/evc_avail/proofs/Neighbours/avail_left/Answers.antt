@@ -5,9 +5,6 @@ use Rattle.evc_avail.proofs.Around.{unit_low}
 use Rattle.evc_avail.proofs.Flags.{no_left, left_flags}
 use Rattle.evc_avail.proofs.Neighbours.avail_left.Goals as goal
 
-pub is_inter-le-requires : goal.is_inter-le-requires
-is_inter-le-requires g c = let b = c.args.self.now.block.given in unit_low b (left_of b) (first_row b) _ c.left.ensures
-
 pub returns-then-not-le : goal.returns-then-not-le
 returns-then-not-le g c =
     let b = c.args.self.now.block.given in

@@ -5,9 +5,6 @@ use Rattle.evc_avail.proofs.Around.{unit_low}
 use Rattle.evc_avail.proofs.Flags.{no_right, right_flags}
 use Rattle.evc_avail.proofs.Neighbours.avail_right.Goals as goal
 
-pub is_inter-ri-requires : goal.is_inter-ri-requires
-is_inter-ri-requires g c = let b = c.args.self.now.block.given in unit_low b (right_of b) (first_row b) _ c.right.ensures
-
 pub returns-then-not-ri : goal.returns-then-not-ri
 returns-then-not-ri g c =
     let b = c.args.self.now.block.given in
