@@ -3,7 +3,7 @@ use mathlib.Core.Path.{◌≡◌}
 use Prim.Native.Nat.{ℕ, ◌*◌, ◌≤◌}
 use native.Mathlib.Omega.{arith}
 use borrow.Author.Tests.{ltb-false}
-use Rattle.evc_int.proofs.Bools.{none_true}
+use Rattle.std.proofs.lemmas.Bool.{or_parts}
 use Rattle.evc_def.specs.Blocks.{bad_picture}
 use Rattle.evc_def.specs.Codes.{first_of}
 use Rattle.evc_def.proofs.Blocks.{picture_sides}
@@ -22,5 +22,5 @@ covered W H map words e =
     let p = accepted 1 (bad_picture W H) _ (omega arith) e in
     let q = accepted 4 _ _ (omega arith) p.1 in
     let s = picture_sides W H p.0 in
-    let l = none_true (map_short W H map) (words_short W H words) q.0 in
+    let l = or_parts (map_short W H map) (words_short W H words) q.0 in
     record { across = s.0.top; down = s.1.top; vectors = ltb-false _ _ l.0; units = ltb-false _ _ l.1 }

@@ -198,10 +198,10 @@ fn under(s: &[u16], at: usize, o: Offsets) -> Numbers
     requires ordered { Ordered o }
     requires bounded { Bounded 26603 s.now at o }
     ensures { result ≡ record {
-        p = get_or s.now at 0 + get_or s.now (at + o.p1) 0;
-        q = get_or s.now (at + o.q0) 0 + get_or s.now (at + o.q1) 0;
-        x = get_or s.now (at + o.x) 0;
-        y = get_or s.now (at + o.y) 0
+      p = get_or s.now at 0 + get_or s.now (at + o.p1) 0;
+      q = get_or s.now (at + o.q0) 0 + get_or s.now (at + o.q1) 0;
+      x = get_or s.now (at + o.x) 0;
+      y = get_or s.now (at + o.y) 0;
     } }
 {
     Numbers {

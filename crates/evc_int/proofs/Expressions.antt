@@ -1,7 +1,6 @@
 -- Laws over ℤ by omega: an expression of sums, differences, products and negations is written down once (`Ex`), or read off the goal by `search`
--- (`reads`); `solve` and `ring` prove an equation of two of them from one of naturals, `fact` and `known` turn one into naturals. Assumes nothing.
+-- (`reads`); `solve` proves an equation of two of them from one of naturals, `fact` and `known` turn one into naturals. Assumes nothing.
 --   solve (! x ⊕ ! y) (! y ⊕ ! x) (omega arith)
---   ring (search (reads, at x, at y)) (omega arith)
 --   omega (arith, known (search (reads, at x, at y)) h)
 use mathlib.Core.Path.{◌≡◌, refl, sym, ap, ◌∙◌}
 use Prim.Native.Nat.{ℕ, ◌+◌, ◌*◌, ◌-◌, ◌≤◌}
@@ -89,9 +88,6 @@ abbrev pub read-* : (a b : ℤ) → Read a → Read b → Read (a *ℤ b)
 read-* a b r s = (r.0 ⊗ s.0, λ i. r.1 i *ℤ s.1 i)
 
 pub ruleset reads = (read-+, read-*, read_neg, read_pos)
-
-pub ring : {a b : ℤ} (r : Read a × Read b) → more r.0.0 + less r.1.0 ≡ more r.1.0 + less r.0.0 → a ≡ b
-ring r h = sym r.0.1 ∙ solve r.0.0 r.1.0 h ∙ r.1.1
 
 pub known : {a b : ℤ} (r : Read a × Read b) → a ≡ b → more r.0.0 + less r.1.0 ≡ more r.1.0 + less r.0.0
 known r h = fact r.0.0 r.1.0 (r.0.1 ∙ h ∙ sym r.1.1)

@@ -9,7 +9,7 @@ use native.Mathlib.Numerals.{add-one}
 use native.Mathlib.Omega.{arith}
 use native.Mathlib.Nat.{eq-or-lt_of_le, le_of_suc-le-suc, not-suc-le-zero, mul-le-mul_right, suc-mul, zero-mul, suc-add, zero-add, add-zero, add-suc, add_assoc}
 use lib.Dec.{ltb}
-use lib.ListN.{length, set, length-set, get_or, replicate, take, drop, length-drop, take-append-drop}
+use lib.ListN.{length, set, length-set, get_or, take, drop, length-drop, take-append-drop}
 use lib.Seq.{get_or-set_same, get_or-set_other, set_comm, set-set, set-append_left, length-take-le}
 use borrow.Author.Tests.{ltb-true, ltb-false}
 use Rattle.evc_int.specs.Lists.{with_row, with_block}
@@ -113,31 +113,6 @@ module _ {X : Type 0} where
     with_block-before l at stride n zero f i b = refl
     with_block-before l at stride n (suc h) f i b =
         with_row-out (with_block l at stride n h f) (at + h * stride) n (f h) i (inl (omega arith)) ∙ with_block-before l at stride n h f i b
-
-  -- ---- what holds of every element, as a bound
-
-  module _ (P : X → Type 0) (e : X) where
-    set_each : (l : List X) (i : ℕ) (v : X) → ((j : ℕ) → P (get_or l j e)) → P v → (j : ℕ) → P (get_or (set l i v) j e)
-    set_each [] i v h q j = h j
-    set_each (a ∷ l) zero v h q zero = q
-    set_each (a ∷ l) zero v h q (suc j) = h (suc j)
-    set_each (a ∷ l) (suc i) v h q zero = h zero
-    set_each (a ∷ l) (suc i) v h q (suc j) = set_each l i v (λ k. h (suc k)) q j
-
-    pub with_row-each : (l : List X) (at n : ℕ) (f : ℕ → X) → ((j : ℕ) → P (get_or l j e)) → ((x : ℕ) → P (f x)) → (j : ℕ) → P (get_or (with_row l at n f) j e)
-    unfolding with_row
-    with_row-each l at zero f h q j = h j
-    with_row-each l at (suc n) f h q j = set_each (with_row l at n f) (at + n) (f n) (with_row-each l at n f h q) (q n) j
-
-    pub with_block-each : (l : List X) (at stride n h : ℕ) (f : ℕ → ℕ → X) → ((j : ℕ) → P (get_or l j e)) → ((y x : ℕ) → P (f y x)) → (j : ℕ) → P (get_or (with_block l at stride n h f) j e)
-    unfolding with_block
-    with_block-each l at stride n zero f k q j = k j
-    with_block-each l at stride n (suc h) f k q j = with_row-each (with_block l at stride n h f) (at + h * stride) n (f h) (with_block-each l at stride n h f k q) (q h) j
-
-    pub replicate_each : (n : ℕ) → P e → (j : ℕ) → P (get_or (replicate n e) j e)
-    replicate_each zero p j = p
-    replicate_each (suc n) p zero = p
-    replicate_each (suc n) p (suc j) = replicate_each n p j
 
   -- ---- a loop over groups of columns: the first c columns of every row, and then n more, are the first c + n
 

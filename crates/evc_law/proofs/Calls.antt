@@ -22,7 +22,8 @@ use Rattle.evc_pad.proofs.Laws.{accepts, after, padded_length, reference_small}
 use Rattle.evc_samples.proofs.Samples.{none_exceeds}
 use Rattle.evc_filter.specs.Filter.{reach}
 use Rattle.evc_interp.specs.Prediction.{window_of, window_exceeds}
-use Rattle.evc_int.proofs.Bools.{none_true, and_false_right}
+use Rattle.std.proofs.lemmas.Bool.{or_parts}
+use Rattle.evc_int.proofs.Bools.{and_false_right}
 use Rattle.evc_mc.specs.Block.{RefPicList, Component, luma, cb, cr, type_of, plane_of, offset_of, width_of, height_of, with_component, with_samples, list_sample, pred_len, list_short, poc_exceeds, component_exceeds, list_exceeds, mc2_code}
 use Rattle.evc_law.specs.Demand3.{Picture, Made, general_list}
 use Rattle.evc_law.proofs.Paths.{within_pad, window_reads, paths}
@@ -113,9 +114,9 @@ module _ (b : EvcBlock) (l m : RefPicList) (pred0 pred1 : List ℕ) where
       let c3 = accepted 3 _ _ (lit< tt) f.1 in
       let c4 = accepted 4 _ _ (lit< tt) c3.1 in
       let c5 = accepted 5 _ _ (lit< tt) c4.1 in
-      let n4 = none_true (list_short b l || list_short b m || ltb (length pred0) pred_len) (ltb (length pred1) pred_len) c4.0 in
-      let n4' = none_true (list_short b l || list_short b m) (ltb (length pred0) pred_len) n4.0 in
-      let n5 = none_true (poc_exceeds l.list) (poc_exceeds m.list) c5.0 in
+      let n4 = or_parts (list_short b l || list_short b m || ltb (length pred0) pred_len) (ltb (length pred1) pred_len) c4.0 in
+      let n4' = or_parts (list_short b l || list_short b m) (ltb (length pred0) pred_len) n4.0 in
+      let n5 = or_parts (poc_exceeds l.list) (poc_exceeds m.list) c5.0 in
       record {
         block = f.0;
         some = not-false (l.list.used || m.list.used) c3.0;

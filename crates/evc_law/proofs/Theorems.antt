@@ -9,7 +9,7 @@ use lib.IntN.{ℤ, pos, ◌+ℤ◌, ◌*ℤ◌}
 use lib.ListN.{get_or}
 use borrow.Author.Tests.{eqb-true}
 use Rattle.evc_int.specs.Whole.{eq_z}
-use Rattle.evc_int.proofs.Bools.{both_true}
+use Rattle.std.proofs.lemmas.Bool.{and_parts}
 use Rattle.evc_int.proofs.Whole.{eq_z-true}
 use Rattle.evc_def.specs.Blocks.{Allowed, max_poc}
 use Rattle.evc_def.specs.Codes.{first_of, block_checks}
@@ -51,8 +51,8 @@ pub record SameMotion (b : EvcBlock) (l m : EvcList) : Type 0 where
 pub same_motion_lem : (b : EvcBlock) (l m : EvcList) → same_motion b l m ≡ true → SameMotion b l m
 unfolding same_motion
 same_motion_lem b l m e =
-    let f = both_true (eqb l.poc m.poc && eq_z (clip_mv b l.mv).x (clip_mv b m.mv).x) (eq_z (clip_mv b l.mv).y (clip_mv b m.mv).y) e in
-    let g = both_true (eqb l.poc m.poc) (eq_z (clip_mv b l.mv).x (clip_mv b m.mv).x) f.0 in
+    let f = and_parts (eqb l.poc m.poc && eq_z (clip_mv b l.mv).x (clip_mv b m.mv).x) (eq_z (clip_mv b l.mv).y (clip_mv b m.mv).y) e in
+    let g = and_parts (eqb l.poc m.poc) (eq_z (clip_mv b l.mv).x (clip_mv b m.mv).x) f.0 in
     record { count = eqb-true _ _ g.0; across = eq_z-true _ _ g.1; down = eq_z-true _ _ f.1 }
 
 module _ (b : EvcBlock) (across : Allowed b.pic_w b.x b.w) (down : Allowed b.pic_h b.y b.h) where

@@ -16,7 +16,7 @@ use Rattle.evc_int.proofs.Lists.{length-with_block, with_block-in, with_block-pa
 use Rattle.evc_def.specs.Blocks.{bad_picture}
 use Rattle.evc_def.specs.Codes.{Check, ◌when◌, first_of}
 use Rattle.evc_def.proofs.Codes.{refuses}
-use Rattle.evc_int.proofs.Bools.{none_true}
+use Rattle.std.proofs.lemmas.Bool.{or_parts}
 use Rattle.evc_plane.specs.declared.PlaneType.{PlaneType}
 use Rattle.evc_plane.specs.Planes.{side_of, pad_of, origin_of, stride_of, rows_of, plane_len, config_of, picture_start, stored_at, sample_at, reference, reference_of, start_at, window_start}
 use Rattle.evc_plane.proofs.Reference.{reference_stored, reference_left_right, reference_top_bottom}
@@ -152,9 +152,9 @@ module _ (t : PlaneType) (W H : ℕ) (s : List ℕ) (done : pad_code t W H s ≡
   pub accepts : (bad_picture W H ≡ false) × (plane_len t W H ≤ length s) × (exceeds s (picture_start t W) (stride_of t W) (side_of t W) (side_of t H) ≡ false)
   unfolding pad_code
   accepts = (
-    (none_true (bad_picture W H) false (passes 1 _ tt done)).0,
-    ltb-false (length s) (plane_len t W H) (none_true (ltb (length s) (plane_len t W H)) false (passes 4 _ tt done)).0,
-    (none_true (exceeds s (picture_start t W) (stride_of t W) (side_of t W) (side_of t H)) false (passes 6 _ tt done)).0,
+    (or_parts (bad_picture W H) false (passes 1 _ tt done)).0,
+    ltb-false (length s) (plane_len t W H) (or_parts (ltb (length s) (plane_len t W H)) false (passes 4 _ tt done)).0,
+    (or_parts (exceeds s (picture_start t W) (stride_of t W) (side_of t W) (side_of t H)) false (passes 6 _ tt done)).0,
   )
 
   -- no sample of its picture is above 1023

@@ -4,7 +4,7 @@ use Prim.Native.Nat.{ℕ, ◌+◌, ◌-◌, ◌≤◌, ◌<◌, min}
 use native.Mathlib.Omega.{arith}
 use lib.IntN.{ℤ, pos, ◌+ℤ◌}
 use Rattle.evc_int.specs.Whole.{◌⁺}
-use Rattle.evc_int.proofs.Expressions.{!, ◌⊕◌, fact, part⁺}
+use Rattle.evc_int.proofs.Expressions.{ !, ◌⊕◌, fact, part⁺}
 use Rattle.evc_plane.specs.Planes.{reference}
 
 module _ (pic : ℕ → ℕ → ℕ) (pw ph : ℕ) where

@@ -8,7 +8,7 @@ use lib.IntN.{ℤ, pos, ◌+ℤ◌}
 use lib.Signed.{lt_z}
 use Rattle.evc_int.specs.Whole.{−◌, ◌⁺, ◌⁻, clip3}
 use Rattle.evc_int.proofs.Whole.{Tested, under, not_under}
-use Rattle.evc_int.proofs.Expressions.{!, ◌⊕◌, neg, part⁺, tested_ex}
+use Rattle.evc_int.proofs.Expressions.{ !, ◌⊕◌, neg, part⁺, tested_ex}
 use Rattle.evc_def.specs.Blocks.{bad_picture}
 use Rattle.evc_plane.specs.declared.PlaneType.{PlaneType}
 use Rattle.evc_plane.specs.Planes.{side_of, pad_of, origin_of, stride_of, rows_of, plane_len, config_of, start_at, window_start}

@@ -19,7 +19,7 @@ use Rattle.std.proofs.Math.Bool.{or_comm, or-false}
 use Rattle.std.proofs.lemmas.List.{length-take, length-drop}
 use Rattle.std.proofs.lemmas.List.Folds.{list_any_more}
 use Rattle.std.proofs.lemmas.Simd.{length-zip2}
-use Rattle.evc_int.proofs.Bools.{none_true}
+use Rattle.std.proofs.lemmas.Bool.{or_parts}
 use Rattle.evc_samples.specs.Samples.{too_large, row_exceeds, exceeds}
 
 pub or_too_large : (x y : ℕ) → too_large (bit_or x y) ≡ too_large x || too_large y
@@ -90,7 +90,7 @@ row_small : (s : List ℕ) (at n : ℕ) → row_exceeds s at n ≡ false → (x 
 unfolding row_exceeds
 row_small s at zero e x lt = absurd (not-suc-le-zero lt)
 row_small s at (suc n) e x lt =
-    let h = none_true (row_exceeds s at n) (too_large (get_or s (at + n) 0)) e in
+    let h = or_parts (row_exceeds s at n) (too_large (get_or s (at + n) 0)) e in
     ⊎_elim (λ (q : x ≡ n). rw q (small (get_or s (at + n) 0) h.1)) (λ (q : x < n). row_small s at n h.0 x q) (eq-or-lt_of_le (le_of_suc-le-suc lt))
 
 -- none of the samples is above 1023 where the answer is false ..
@@ -98,7 +98,7 @@ pub exceeds_none : (s : List ℕ) (at stride n h : ℕ) → exceeds s at stride 
 unfolding exceeds
 exceeds_none s at stride n zero e y x ly lx = absurd (not-suc-le-zero ly)
 exceeds_none s at stride n (suc h) e y x ly lx =
-    let b = none_true (exceeds s at stride n h) (row_exceeds s (at + h * stride) n) e in
+    let b = or_parts (exceeds s at stride n h) (row_exceeds s (at + h * stride) n) e in
     ⊎_elim (λ (q : y ≡ h). rw q (row_small s (at + h * stride) n b.1 x lx)) (λ (q : y < h). exceeds_none s at stride n h b.0 y x q lx) (eq-or-lt_of_le (le_of_suc-le-suc ly))
 
 -- .. and only there
@@ -128,7 +128,7 @@ module _ (s : List ℕ) (at : ℕ) where
     where
       forth : row_exceeds s at j || row_exceeds s (at + n - k) k ≡ false → row_exceeds s at n ≡ false
       forth e =
-          let h = none_true (row_exceeds s at j) (row_exceeds s (at + n - k) k) e in
+          let h = or_parts (row_exceeds s at j) (row_exceeds s (at + n - k) k) e in
           row_all_small s at n (λ x lx. either x (ltb x j) refl lx h.0 h.1)
         where
           either : (x : ℕ) (t : Bool) → ltb x j ≡ t → x < n → row_exceeds s at j ≡ false → row_exceeds s (at + n - k) k ≡ false → get_or s (at + x) 0 ≤ 1023

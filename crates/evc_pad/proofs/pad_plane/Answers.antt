@@ -2,7 +2,7 @@
 use mathlib.Core.Path.{◌≡◌, ◌∙◌, ap}
 use mathlib.Core.Bool.{false}
 use mathlib.Core.List.{List}
-use mathlib.Core.Logic.{inl, inr}
+use mathlib.Core.Logic.{inl}
 use Prim.Native.Nat.{ℕ, ◌+◌, ◌≤◌}
 use native.Mathlib.Omega.{arith}
 use lib.ListN.{length}
@@ -12,12 +12,9 @@ use Rattle.evc_plane.specs.declared.PlaneType.{PlaneType}
 use Rattle.evc_plane.specs.declared.PlaneConfig.{PlaneConfig}
 use Rattle.evc_plane.specs.Planes.{rows_of, plane_len, config_of}
 use Rattle.evc_pad.specs.Padding.{padded}
-use Rattle.evc_plane.proofs.Sizes.{Room, room}
+use Rattle.evc_plane.proofs.Sizes.{room}
 use Rattle.evc_pad.proofs.Padding.{filled_left, filled_right, copied_up, copied_down, held, steps_pad}
 use Rattle.evc_pad.proofs.pad_plane.Goals as goal
-use Rattle.evc_pad.proofs.pad_plane.Lts as place
-use Rattle.evc_pad.proofs.pad_plane.Reads.{Pre, Post}
-use Rattle.evc_pad.proofs.pad_plane.Tie.{the-claims as claims, handed_clauses as clauses}
 
 module _ (t : PlaneType) (W H : ℕ) (c : PlaneConfig) (e : c ≡ config_of t W H) where
   abbrev step : (ℕ → ℕ → ℕ → ℕ → ℕ → List ℕ → List ℕ) → List ℕ → List ℕ
@@ -31,57 +28,42 @@ module _ (t : PlaneType) (W H : ℕ) (c : PlaneConfig) (e : c ≡ config_of t W 
       ∙ steps_pad c.yorigin c.xorigin c.width c.height c.stride s (omega arith) (omega arith) (omega arith) (omega arith) (omega arith)
       ∙ ap (λ (z : PlaneConfig). with_block s 0 z.stride z.stride (z.yorigin + z.height + z.yorigin) (held z.yorigin z.xorigin z.width z.height z.stride s)) e
 
-known : (c : place.After-plane_config claims Pre Post clauses) → Room c.plane_config-c.result (length c.args.plane.now)
-known c = room _ _ _ _ _ c.plane_config-c.ensures c.args.pic.accepted c.requires
+pub overflow_add-right : goal.overflow_add-right
+overflow_add-right c = omega (arith, room _ _ _ _ (length c.args.plane.now) c.plane_config-c.ensures c.args.pic.accepted c.requires)
 
-length₁ : (c : place.After-pad_columns-arg2 claims Pre Post clauses) → length c.pad_columns.new.plane ≡ length c.args.plane.now
-length₁ c = c.pad_columns.auto.plane
+pub overflow_mul-first : goal.overflow_mul-first
+overflow_mul-first c = omega (arith, room _ _ _ _ (length c.args.plane.now) c.plane_config-c.ensures c.args.pic.accepted c.requires)
 
-length₂ : (c : place.After-pad_rows-arg claims Pre Post clauses) → length c.pad_columns-2.new.plane ≡ length c.args.plane.now
-length₂ c = c.pad_columns-2.auto.plane ∙ length₁ c.before.before.before.before
+pub overflow_mul-bottom : goal.overflow_mul-bottom
+overflow_mul-bottom c = omega (arith, room _ _ _ _ (length c.args.plane.now) c.plane_config-c.ensures c.args.pic.accepted c.requires)
 
-length₃ : (c : place.After-pad_rows-arg2 claims Pre Post clauses) → length c.pad_rows.new.plane ≡ length c.args.plane.now
-length₃ c = c.pad_rows.auto.plane ∙ length₂ c.before.before.before.before
+pub overflow_add-bottom : goal.overflow_add-bottom
+overflow_add-bottom c = omega (arith, room _ _ _ _ (length c.args.plane.now) c.plane_config-c.ensures c.args.pic.accepted c.requires)
 
-pub pad_columns-requires : goal.pad_columns-requires
-pad_columns-requires c = let z = known c.before.before.before in record { stride_in_bounds = (omega arith, omega arith, omega arith); fact = inr (omega arith) }
+pub pad_columns-requires-clause-stride_in_bounds : goal.pad_columns-requires-clause-stride_in_bounds
+pad_columns-requires-clause-stride_in_bounds c = omega (arith, room _ _ _ _ (length c.args.plane.now) c.plane_config-c.ensures c.args.pic.accepted c.requires)
 
-pub pad_columns-requires-2 : goal.pad_columns-requires-2
-pad_columns-requires-2 c =
-    let z = known c.before.before.before.before.before.before.before in
-    let n = length₁ c in record { stride_in_bounds = (omega arith, omega arith, omega arith); fact = inl (omega arith) }
+pub overflow_sub-stride : goal.overflow_sub-stride
+overflow_sub-stride c = omega (arith, room _ _ _ _ (length c.args.plane.now) c.plane_config-c.ensures c.args.pic.accepted c.requires)
 
-pub pad_rows-requires : goal.pad_rows-requires
-pad_rows-requires c =
-    let z = known c.before.before.before.before.before.before.before.before.before.before.before in
-    let n = length₂ c in record { stride_in_bounds = (omega arith, omega arith); fact = inr (omega arith) }
+pub overflow_sub-right : goal.overflow_sub-right
+overflow_sub-right c = omega (arith, room _ _ _ _ (length c.args.plane.now) c.plane_config-c.ensures c.args.pic.accepted c.requires)
 
-pub pad_rows-requires-2 : goal.pad_rows-requires-2
-pad_rows-requires-2 c =
-    let z = known c.before.before.before.before.before.before.before.before.before.before.before.before.before.before.before in
-    let n = length₃ c in record { stride_in_bounds = (omega arith, omega arith); fact = inl (omega arith) }
+pub pad_columns-requires-2-clause-stride_in_bounds : goal.pad_columns-requires-2-clause-stride_in_bounds
+pad_columns-requires-2-clause-stride_in_bounds c = omega (arith, room _ _ _ _ (length c.args.plane.now) c.plane_config-c.ensures c.args.pic.accepted c.requires)
+
+pub pad_rows-requires-clause-stride_in_bounds : goal.pad_rows-requires-clause-stride_in_bounds
+pad_rows-requires-clause-stride_in_bounds c = omega (arith, room _ _ _ _ (length c.args.plane.now) c.plane_config-c.ensures c.args.pic.accepted c.requires)
+
+pub pad_columns-requires-2-clause-fact : goal.pad_columns-requires-2-clause-fact
+pad_columns-requires-2-clause-fact c = let z = room _ _ _ _ (length c.args.plane.now) c.plane_config-c.ensures c.args.pic.accepted c.requires in inl (omega arith)
+
+pub overflow_sub-bottom : goal.overflow_sub-bottom
+overflow_sub-bottom c = omega (arith, room _ _ _ _ (length c.args.plane.now) c.plane_config-c.ensures c.args.pic.accepted c.requires)
+
+pub pad_rows-requires-2-clause-stride_in_bounds : goal.pad_rows-requires-2-clause-stride_in_bounds
+pad_rows-requires-2-clause-stride_in_bounds c = omega (arith, room _ _ _ _ (length c.args.plane.now) c.plane_config-c.ensures c.args.pic.accepted c.requires)
 
 pub returns : goal.returns
 returns c =
     by_steps _ _ _ c.plane_config-c.result c.plane_config-c.ensures _ _ _ _ _ c.args.pic.accepted c.requires c.pad_columns.ensures c.pad_columns-2.ensures c.pad_rows.ensures c.pad_rows-2.ensures
-
-pub overflow_add-right : goal.overflow_add-right
-overflow_add-right c = let z = known c.before.before in omega arith
-
-pub overflow_mul-first : goal.overflow_mul-first
-overflow_mul-first c = let z = known c.before.before in omega arith
-
-pub overflow_mul-bottom : goal.overflow_mul-bottom
-overflow_mul-bottom c = let z = known c.before.before.before in omega arith
-
-pub overflow_add-bottom : goal.overflow_add-bottom
-overflow_add-bottom c = let z = known c.before.before.before in omega arith
-
-pub overflow_sub-stride : goal.overflow_sub-stride
-overflow_sub-stride c = let z = known c.before.before.before.before.before.before.before in omega arith
-
-pub overflow_sub-right : goal.overflow_sub-right
-overflow_sub-right c = let z = known c.before.before.before.before.before.before.before in omega arith
-
-pub overflow_sub-bottom : goal.overflow_sub-bottom
-overflow_sub-bottom c = let z = known c.before.before.before.before.before.before.before.before.before.before.before.before.before.before.before in omega arith

@@ -1,34 +1,25 @@
 -- `evc_plane::plane_config` meets its contract: the record that is made is the one that the definition names. Assumes nothing.
-use mathlib.Core.Path.{◌≡◌}
-use Prim.Native.Nat.{ℕ, ◌+◌, ◌*◌, ◌/◌}
 use native.Mathlib.Omega.{arith}
-use Rattle.evc_plane.specs.declared.PlaneType.{PlaneType}
-use Rattle.evc_plane.specs.Planes.{pad_of, origin_of, side_of, stride_of, rows_of, config_of}
-use Rattle.evc_plane.proofs.Sizes.{Sizes, sizes}
+use Rattle.evc_plane.specs.Planes.{config_of, rows_of, stride_of}
+use Rattle.evc_plane.proofs.Sizes.{sizes}
 use Rattle.evc_plane.proofs.plane_config.Goals as goal
-
-made : (t : PlaneType) (W H o p w h : ℕ) → o ≡ origin_of t → p ≡ pad_of t → w ≡ side_of t W → h ≡ side_of t H → record { stride = (o + w + p + 15) / 16 * 16; alloc_height = p + h + p; width = w; height = h; xorigin = o; yorigin = p } ≡ config_of t W H
-unfolding config_of stride_of rows_of
-made t W H o p w h a b c d = simp (a, b, c, d)
-
-small : (c : goal.After-side-height) → Sizes (config_of c.args.t c.args.pic.w c.args.pic.h)
-small c = sizes _ _ _ c.args.pic.accepted
-
-pub returns : goal.returns
-returns c = made _ _ _ _ _ _ _ c.xorigin-xorigin.ensures c.pad_size-pad.ensures c.side-width.ensures c.side-height.ensures
 
 pub overflow_add-result : goal.overflow_add-result
 unfolding config_of stride_of rows_of
-overflow_add-result c = let z = small c in omega arith
+overflow_add-result c = omega (arith, sizes c.args.t c.args.pic.w c.args.pic.h c.args.pic.accepted)
 
 pub overflow_add-result-2 : goal.overflow_add-result-2
 unfolding config_of stride_of rows_of
-overflow_add-result-2 c = let z = small c in omega arith
+overflow_add-result-2 c = omega (arith, sizes c.args.t c.args.pic.w c.args.pic.h c.args.pic.accepted)
 
 pub overflow_add-result-3 : goal.overflow_add-result-3
 unfolding config_of stride_of rows_of
-overflow_add-result-3 c = let z = small c in omega arith
+overflow_add-result-3 c = omega (arith, sizes c.args.t c.args.pic.w c.args.pic.h c.args.pic.accepted)
 
 pub overflow_mul-result : goal.overflow_mul-result
 unfolding config_of stride_of rows_of
-overflow_mul-result c = let z = small c in omega arith
+overflow_mul-result c = omega (arith, sizes c.args.t c.args.pic.w c.args.pic.h c.args.pic.accepted)
+
+pub returns : goal.returns
+unfolding config_of stride_of rows_of
+returns c = cc

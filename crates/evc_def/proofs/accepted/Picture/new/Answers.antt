@@ -1,7 +1,7 @@
 -- `Picture::new` meets its contract. Assumes nothing.
 use mathlib.Core.Path.{sym, ◌∙◌}
+use Rattle.evc_def.specs.Codes.{first_of}
 use Rattle.evc_def.proofs.Blocks.{picture_sides}
-use Rattle.evc_def.proofs.Codes.{refused, passed, none}
 use Rattle.evc_def.proofs.accepted.Picture.new.Goals as goal
 
 pub invariant_of-result : goal.invariant_of-result
@@ -11,7 +11,9 @@ invariant_of-result c =
     record { accepted = e; width = s.0.top; height = s.1.top }
 
 pub returns-then-bad_picture-clause-code : goal.returns-then-bad_picture-clause-code
-returns-then-bad_picture-clause-code c = sym (refused _ _ _ (sym c.bad_picture.ensures ∙ c.if-bad_picture.true))
+unfolding first_of
+returns-then-bad_picture-clause-code c = simp (sym c.bad_picture.ensures, c.if-bad_picture.true)
 
 pub returns-clause-code : goal.returns-clause-code
-returns-clause-code c = sym (passed _ _ _ (sym c.bad_picture.ensures ∙ c.if-bad_picture.false) ∙ none)
+unfolding first_of
+returns-clause-code c = simp (sym c.bad_picture.ensures, c.if-bad_picture.false)
