@@ -1,12 +1,11 @@
 //! Calls for the camera movement: for each a line with the number returned, the reading and the bits of both means. rust/README.md has the records.
 #![tactic(auto)]
 
-ghost use Rattle.std.specs.Prelude.{◌*◌, ◌≤◌, vec_len, IfOk, IfSome};
-ghost use Rattle.std.specs.Io.KnownBytes.{Consumes};
+ghost use Rattle.std.specs.Prelude.{◌≤◌, vec_len};
 ghost use Rattle.camera_lists.specs.declared.TheConstants.{MAX_WORDS};
 
 use evc_camera::EvcCamera;
-use evc_lists::{MAX_RECORDS, Record, number, number32};
+use evc_lists::{MAX_RECORDS, Record, number32};
 use std::alloc::{AllocError, Global};
 use std::io::Read;
 use std::{fmt, io};
@@ -21,6 +20,7 @@ struct Call {
     pic_h: u32,
     words: Vec<u32>,
     map: Vec<i16>,
+    ghost lent: { vec_len words ≤ MAX_WORDS },
 }
 
 // What a line prints.
@@ -33,14 +33,6 @@ struct Bits(f64);
 
 // ---- a record
 
-fn read_states<R: Read>(alloc: Global, input: &mut R, asked: u16) -> io::Result<Option<Vec<u8>>>
-    ensures length { IfOk result (λ read. IfSome read (λ states. vec_len states ≤ MAX_WORDS)) }
-    ensures taken { IfOk result (λ read. IfSome read (λ states. Consumes (R.remaining input.old) (R.remaining input.new) states.items)) }
-{
-    let n = evc_lists::lent(asked, MAX_WORDS);
-    evc_lists::read_vec(alloc, input, n)
-}
-
 fn map_of(alloc: Global, bytes: &[u8]) -> Result<Vec<i16>, AllocError> {
     let (numbers, _) = bytes.as_chunks::<2>();
     numbers
@@ -52,21 +44,22 @@ fn map_of(alloc: Global, bytes: &[u8]) -> Result<Vec<i16>, AllocError> {
 // A state for each word lent and the numbers of the map follow the first four numbers.
 impl Record for Call {
     fn read<R: Read>(alloc: Global, input: &mut R) -> io::Result<Option<Call>> {
-        let Some(r) = evc_lists::read_array::<R, 8>(input)? else {
+        let Some(bytes) = evc_lists::read_array::<R, 8>(input)? else {
             return Ok(None)
         };
-        let Some(states) = read_states(alloc, input, number(&r, 2))? else {
+        let [pic_w, pic_h, words, numbers] = evc_lists::numbers::<4>(&bytes);
+        let Some(states) = evc_lists::read_lent(alloc, input, words, MAX_WORDS)? else {
             return Ok(None)
         };
-        let n = 2 * evc_lists::lent(number(&r, 3), MAX_MAP_LEN);
-        let Some(bytes) = evc_lists::read_vec(alloc, input, n)? else {
+        let n = 2 * evc_lists::lent(numbers, MAX_MAP_LEN);
+        let Some(map) = evc_lists::read_vec(alloc, input, n)? else {
             return Ok(None)
         };
         Ok(Some(Call {
-            pic_w: number32(&r, 0),
-            pic_h: number32(&r, 1),
+            pic_w: number32(pic_w),
+            pic_h: number32(pic_h),
             words: evc_lists::words_of(alloc, &states)?,
-            map: map_of(alloc, &bytes)?,
+            map: map_of(alloc, &map)?,
         }))
     }
 }

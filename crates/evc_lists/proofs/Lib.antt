@@ -1,3 +1,4 @@
+pub mod Made
 pub mod Reduced
 pub mod Rows
 pub mod Scattered

@@ -2,21 +2,21 @@
 //! rust/README.md has the records.
 #![tactic(auto)]
 
-ghost use Rattle.std.specs.Prelude.{◌≡◌, ◌==◌, ◌+◌, ◌*◌, ◌<◌, ◌≤◌, ℕ, List, [], ◌∷◌, ◌++◌, min, get_or, set, take, length, map, vec_len};
+ghost use Rattle.std.specs.Prelude.{◌≡◌, ◌==◌, ◌+◌, ◌*◌, ◌<◌, ◌≤◌, ℕ, List, [], ◌∷◌, ◌++◌, min, get_or, set, length, map, vec_len};
 ghost use Rattle.std.specs.Prelude.{Some, IfOk, IfSome, OnOk, IsTrue};
 ghost use Rattle.std.specs.Io.KnownBytes.{Appends, Consumes};
 ghost use Rattle.evc_lists.specs.Records.{number, number32};
 ghost use Rattle.evc_lists.specs.Units.{word_of};
 ghost use Rattle.evc_lists.specs.Arbitrary.{following, scattered, below};
-ghost use Rattle.evc_lists.specs.Planes.{pictures_of, padded_plane, plane_of};
-ghost use Rattle.evc_lists.specs.Printed.{hash, others, spaced, row_line, rows_text};
+ghost use Rattle.evc_lists.specs.Planes.{type_of, samples_of, set_sample_of, is_in, planes_of, pictures_of, padded_plane, finished, plane_of};
+ghost use Rattle.evc_lists.specs.Printed.{hash, others, spaced, row_line, rows_text, flags_text};
 
-use evc_def::{EvcBlock, EvcMv};
+use evc_def::{EvcBlock, EvcMv, RefList, Refusal};
 use evc_plane::PlaneType;
 use std::alloc::{AllocError, Global};
 use std::fmt::Display;
 use std::io::{ErrorKind, Read, Write};
-use std::{fmt, io};
+use std::{array, fmt, io};
 
 // ---- the records of a list
 
@@ -29,8 +29,15 @@ pub trait Record: Drop {
         ensures { IfOk result (λ read. IfSome read (λ _. (bytes : List ℕ) × Consumes (R.remaining input.old) (R.remaining input.new) bytes)) };
 }
 
+// Bytes of a number that is known.
+impl<const N: usize> Record for [u8; N] {
+    fn read<R: Read>(_alloc: Global, input: &mut R) -> io::Result<Option<[u8; N]>> {
+        read_array(input)
+    }
+}
+
 // Runs the next records, `most` of them or as many as there are. A record's step may read what follows it: how far the input has got
-// is up to the steps, of which the bound says only that they may be called.
+// is up to the steps, of which the bound says only that they may be called. The clause needs the name F, which an `impl FnMut` has not.
 pub fn for_each_record<R: Read, T: Record, F: FnMut(&mut R, T) -> io::Result<()>>(
     alloc: Global,
     input: &mut R,
@@ -49,7 +56,7 @@ pub fn for_each_record<R: Read, T: Record, F: FnMut(&mut R, T) -> io::Result<()>
     Ok(())
 }
 
-// Fills the bytes from the input; false where it has no more.
+// Fills the bytes from the input; false where it has no more. The bytes are lent, so that an Option would have nothing to hold.
 pub fn read<R: Read>(input: &mut R, bytes: &mut [u8]) -> io::Result<bool>
     ensures { IfOk result (λ more. IsTrue more → Consumes (R.remaining input.old) (R.remaining input.new) bytes.new) }
 {
@@ -77,61 +84,77 @@ pub fn read_vec<R: Read>(alloc: Global, input: &mut R, n: usize) -> io::Result<O
     Ok(read(input, &mut bytes)?.then_some(bytes))
 }
 
+// As many bytes as a record asks for, but no more than `most`.
+pub fn read_lent<R: Read>(
+    alloc: Global,
+    input: &mut R,
+    asked: u16,
+    most: usize,
+) -> io::Result<Option<Vec<u8>>>
+    ensures length { IfOk result (λ read. IfSome read (λ bytes. vec_len bytes ≡ min asked most)) }
+    ensures taken { IfOk result (λ read. IfSome read (λ bytes. Consumes (R.remaining input.old) (R.remaining input.new) bytes.items)) }
+{
+    read_vec(alloc, input, lent(asked, most))
+}
+
 // ---- a record: numbers of two bytes
 
-pub fn number(r: &[u8], k: usize) -> u16
-    requires { 2 * k + 2 ≤ length r.now }
-    ensures { result ≡ number r.now k }
+fn number(bytes: &[u8], k: usize) -> u16
+    requires { 2 * k + 2 ≤ length bytes.now }
+    ensures { result ≡ number bytes.now k }
 {
-    evc_bytes::u16_at(r, 2 * k)
+    evc_bytes::u16_at(bytes, 2 * k)
+}
+
+// The first N numbers, two bytes each.
+pub fn numbers<const N: usize>(bytes: &[u8]) -> [u16; N]
+    requires { 2 * N ≤ length bytes.now }
+    ensures { (k : ℕ) → k < N → get_or result k 0 ≡ number bytes.now k }
+{
+    array::from_fn(
+        |k|
+            requires { 2 * k + 2 ≤ length bytes.now }
+        { number(bytes, k) },
+    )
 }
 
 // The numbers from 65,280 on stand for those just below 2^32, so that two bytes reach both ends of a u32.
-pub fn number32(r: &[u8], k: usize) -> u32
-    requires { 2 * k + 2 ≤ length r.now }
-    ensures { result ≡ number32 r.now k }
+pub fn number32(n: u16) -> u32
+    ensures { result ≡ number32 n }
 {
-    let n = u32::from(number(r, k));
-    if n < 0xff00 { n } else { n + 0xffff0000 }
-}
-
-// W, H, x, y, w, h from number k on.
-pub fn block(r: &[u8], k: usize) -> EvcBlock
-    requires { 2 * k + 12 ≤ length r.now }
-{
-    EvcBlock {
-        pic_w: number32(r, k),
-        pic_h: number32(r, k + 1),
-        x: number32(r, k + 2),
-        y: number32(r, k + 3),
-        w: number32(r, k + 4),
-        h: number32(r, k + 5),
-    }
-}
-
-pub fn vector(r: &[u8], k: usize) -> EvcMv
-    requires { 2 * k + 4 ≤ length r.now }
-{
-    EvcMv {
-        x: evc_bytes::i16_at(r, 2 * k),
-        y: evc_bytes::i16_at(r, 2 * k + 2),
-    }
-}
-
-pub fn is_one(r: &[u8], k: usize) -> bool
-    requires { 2 * k + 2 ≤ length r.now }
-    ensures { result ≡ (number r.now k == 1) }
-{
-    number(r, k) == 1
-}
-
-pub fn plane_type(r: &[u8], k: usize) -> PlaneType
-    requires { 2 * k + 2 ≤ length r.now }
-{
-    if is_one(r, k) {
-        PlaneType::UV
+    let wide = u32::from(n);
+    if wide < 0xff00 {
+        wide
     } else {
-        PlaneType::Y
+        wide + 0xffff0000
+    }
+}
+
+// The six numbers of a block.
+pub fn block([pic_w, pic_h, x, y, w, h]: [u16; 6]) -> EvcBlock {
+    EvcBlock {
+        pic_w: number32(pic_w),
+        pic_h: number32(pic_h),
+        x: number32(x),
+        y: number32(y),
+        w: number32(w),
+        h: number32(h),
+    }
+}
+
+// Both components of a vector.
+pub fn vector(x: u16, y: u16) -> EvcMv {
+    EvcMv {
+        x: x.cast_signed(),
+        y: y.cast_signed(),
+    }
+}
+
+// 1 stands for chroma.
+pub fn plane_type(n: u16) -> PlaneType {
+    match n {
+        1 => PlaneType::UV,
+        _ => PlaneType::Y,
     }
 }
 
@@ -155,22 +178,10 @@ fn word_of(state: u8) -> u32
     WORDS[usize::from(state % 8)]
 }
 
-// By index: of what a zip over `iter_mut` wrote, a proof knows the length alone.
-pub fn fill_words(words: &mut [u32], states: &[u8])
-    requires { length words.old ≤ length states.now }
-    ensures { words.new ≡ map word_of (take (length words.old) states.now) }
-{
-    for i in 0..words.len() {
-        words[i] = word_of(states[i]);
-    }
-}
-
 pub fn words_of(alloc: Global, states: &[u8]) -> Result<Vec<u32>, AllocError>
     ensures { IfOk result (λ words. words.items ≡ map word_of states.now) }
 {
-    let mut words = vec![in alloc; 0; states.len()]?;
-    fill_words(&mut words, states);
-    Ok(words)
+    states.iter().map(|state| word_of(*state)).collect(alloc)
 }
 
 // ---- arbitrary samples
@@ -210,23 +221,55 @@ pub fn reduce(samples: &mut [u16], limit: u16)
     }
 }
 
-pub fn fill(samples: &mut [u16], seed: u32, limit: u16)
-    ensures { samples.new ≡ map (below limit) (scattered seed (length samples.old)) }
-{
-    scatter(samples, seed);
-    reduce(samples, limit);
-}
-
 pub fn samples_below(alloc: Global, n: usize, seed: u32, limit: u16) -> Result<Vec<u16>, AllocError>
     ensures length { IfOk result (λ samples. vec_len samples ≡ n) }
     ensures value { IfOk result (λ samples. samples.items ≡ map (below limit) (scattered seed n)) }
 {
-    let mut samples = vec![in alloc; 0u16; n]?;
-    fill(&mut samples, seed, limit);
+    let mut samples = samples(alloc, n, seed)?;
+    reduce(&mut samples, limit);
     Ok(samples)
 }
 
+// Most samples of a block that are lent.
+pub const MAX_BLOCK_LEN: usize = 8192;
+
+// Arbitrary samples that a record asks for.
+#[derive(Clone, Copy)]
+pub struct Arbitrary {
+    pub len: u16,
+    pub seed: u16,
+}
+
+impl Arbitrary {
+    // No more of them than `most`.
+    pub fn samples(self, alloc: Global, most: usize) -> Result<Vec<u16>, AllocError>
+        ensures length { IfOk result (λ samples. vec_len samples ≡ min self.len most) }
+        ensures value { IfOk result (λ samples. samples.items ≡ scattered self.seed (min self.len most)) }
+    {
+        samples(alloc, lent(self.len, most), u32::from(self.seed))
+    }
+}
+
 // ---- the pictures of two lists: the first 15 numbers of a record
+
+// Which plane of a picture.
+#[derive(Clone, Copy, PartialEq, Eq)]
+pub enum Component {
+    Y,
+    U,
+    V,
+}
+
+impl Component {
+    fn plane_type(self) -> PlaneType
+        ensures { result ≡ type_of self }
+    {
+        match self {
+            Component::Y => PlaneType::Y,
+            Component::U | Component::V => PlaneType::UV,
+        }
+    }
+}
 
 // The planes of a picture.
 #[derive(Drop)]
@@ -236,51 +279,138 @@ pub struct Planes {
     pub v: Vec<u16>,
 }
 
+// The planes that a record asks for: their lengths, and the seed of the first one.
+#[derive(Clone, Copy)]
+pub struct ArbitraryPlanes {
+    pub seed: u16,
+    pub y_len: u16,
+    pub u_len: u16,
+    pub v_len: u16,
+}
+
+impl ArbitraryPlanes {
+    // Each plane from the next seed on.
+    pub fn planes(self, alloc: Global, limit: u16) -> Result<Planes, AllocError>
+        ensures { IfOk result (λ planes. (planes.y.items ≡ samples_of self Component.Y limit)
+            × (planes.u.items ≡ samples_of self Component.U limit) × (planes.v.items ≡ samples_of self Component.V limit)) }
+    {
+        let seed = u32::from(self.seed);
+        Ok(Planes {
+            y: samples_below(alloc, usize::from(self.y_len), seed, limit)?,
+            u: samples_below(alloc, usize::from(self.u_len), seed + 1, limit)?,
+            v: samples_below(alloc, usize::from(self.v_len), seed + 2, limit)?,
+        })
+    }
+}
+
+// A sample that is set once the planes are made.
+#[derive(Clone, Copy)]
+pub struct SetSample {
+    pub list: RefList,
+    pub component: Component,
+    pub place: u16,
+    pub value: u16,
+}
+
+impl SetSample {
+    // The plane is one of six, by its number; any other number sets none.
+    fn new(plane: u16, place: u16, value: u16) -> Option<SetSample>
+        ensures { result ≡ set_sample_of plane place value }
+    {
+        let (list, component) = match plane {
+            0 => (RefList::List0, Component::Y),
+            1 => (RefList::List0, Component::U),
+            2 => (RefList::List0, Component::V),
+            3 => (RefList::List1, Component::Y),
+            4 => (RefList::List1, Component::U),
+            5 => (RefList::List1, Component::V),
+            _ => return None,
+        };
+        Some(SetSample {
+            list,
+            component,
+            place,
+            value,
+        })
+    }
+
+    fn is_in(self, list: RefList, component: Component) -> bool
+        ensures { result ≡ is_in self list component }
+    {
+        self.list == list && self.component == component
+    }
+
+    // If the plane is that long. `get_mut` would need the same `if`.
+    fn set(self, plane: &mut [u16])
+        ensures { plane.new ≡ set plane.old self.place self.value }
+    {
+        let place = usize::from(self.place);
+        if place < plane.len() {
+            plane[place] = self.value;
+        }
+    }
+}
+
 // How the planes of both pictures are made.
 #[derive(Drop)]
 pub struct Pictures {
     pub pic_w: u32,
     pub pic_h: u32,
-    pub seeds: [u16; 2],
+    pub planes0: ArbitraryPlanes,
+    pub planes1: ArbitraryPlanes,
     pub limit: u16,
     pub is_padded: bool,
-    pub lens: [u16; 6],
-    pub set_plane: u16,
-    pub set_place: u16,
-    pub set_value: u16,
-}
-
-// One sample, if the plane is that long. `get_mut` would need the same `if`.
-fn set_sample(plane: &mut [u16], place: usize, value: u16)
-    ensures { plane.new ≡ set plane.old place value }
-{
-    if place < plane.len() {
-        plane[place] = value;
-    }
+    pub set: Option<SetSample>,
 }
 
 impl Pictures {
-    pub fn new(r: &[u8]) -> Pictures
-        requires { 30 ≤ length r.now }
-        ensures { result ≡ pictures_of r.now }
+    pub fn new(numbers: [u16; 15]) -> Pictures
+        ensures { result ≡ pictures_of numbers }
     {
+        let [
+            pic_w,
+            pic_h,
+            seed0,
+            seed1,
+            limit,
+            is_padded,
+            y_len0,
+            u_len0,
+            v_len0,
+            y_len1,
+            u_len1,
+            v_len1,
+            plane,
+            place,
+            value,
+        ] = numbers;
         Pictures {
-            pic_w: number32(r, 0),
-            pic_h: number32(r, 1),
-            seeds: [number(r, 2), number(r, 3)],
-            limit: number(r, 4),
-            is_padded: is_one(r, 5),
-            lens: [
-                number(r, 6),
-                number(r, 7),
-                number(r, 8),
-                number(r, 9),
-                number(r, 10),
-                number(r, 11),
-            ],
-            set_plane: number(r, 12),
-            set_place: number(r, 13),
-            set_value: number(r, 14),
+            pic_w: number32(pic_w),
+            pic_h: number32(pic_h),
+            planes0: ArbitraryPlanes {
+                seed: seed0,
+                y_len: y_len0,
+                u_len: u_len0,
+                v_len: v_len0,
+            },
+            planes1: ArbitraryPlanes {
+                seed: seed1,
+                y_len: y_len1,
+                u_len: u_len1,
+                v_len: v_len1,
+            },
+            limit,
+            is_padded: is_padded == 1,
+            set: SetSample::new(plane, place, value),
+        }
+    }
+
+    fn planes(&self, list: RefList) -> ArbitraryPlanes
+        ensures { result ≡ planes_of self.now list }
+    {
+        match list {
+            RefList::List0 => self.planes0,
+            RefList::List1 => self.planes1,
         }
     }
 
@@ -293,48 +423,29 @@ impl Pictures {
         }
     }
 
-    // Plane k of the six, in samples that are lent.
-    pub fn fill_plane(&self, t: PlaneType, k: u16, seed: u32, plane: &mut [u16])
-        ensures { plane.new ≡ plane_of self.now t k seed (length plane.old) }
+    // What is done to a plane once its samples are made.
+    fn finish(&self, list: RefList, component: Component, plane: &mut [u16])
+        ensures { plane.new ≡ finished self.now list component plane.old }
     {
-        fill(plane, seed, self.limit);
-        self.pad(t, plane);
-        if self.set_plane == k {
-            set_sample(plane, usize::from(self.set_place), self.set_value);
+        self.pad(component.plane_type(), plane);
+        if let Some(set) = self.set
+            && set.is_in(list, component)
+        {
+            set.set(plane);
         }
     }
 
-    fn plane(&self, alloc: Global, t: PlaneType, k: u16, seed: u32) -> Result<Vec<u16>, AllocError>
-        requires { k < 6 }
-        ensures length { IfOk result (λ plane. vec_len plane ≡ get_or self.now.lens k 0) }
-        ensures value { IfOk result (λ plane. plane.items ≡ plane_of self.now t k seed (get_or self.now.lens k 0)) }
+    // The picture of a list.
+    pub fn picture(&self, alloc: Global, list: RefList) -> Result<Planes, AllocError>
+        ensures { IfOk result (λ planes. (planes.y.items ≡ plane_of self.now list Component.Y)
+            × (planes.u.items ≡ plane_of self.now list Component.U)
+            × (planes.v.items ≡ plane_of self.now list Component.V)) }
     {
-        let n = usize::from(self.lens[usize::from(k)]);
-        let mut plane = vec![in alloc; 0u16; n]?;
-        self.fill_plane(t, k, seed, &mut plane);
-        Ok(plane)
-    }
-
-    // The picture of a list, each plane from the next seed on.
-    pub fn picture(&self, alloc: Global, list: u16) -> Result<Planes, AllocError>
-        requires { list < 2 }
-        ensures lengths { IfOk result (λ planes. (vec_len planes.y ≡ get_or self.now.lens (3 * list) 0)
-            × (vec_len planes.u ≡ get_or self.now.lens (3 * list + 1) 0)
-            × (vec_len planes.v ≡ get_or self.now.lens (3 * list + 2) 0)) }
-        ensures value { IfOk result (λ planes.
-            let seed = get_or self.now.seeds list 0 in
-            let k = 3 * list in
-            (planes.y.items ≡ plane_of self.now PlaneType.Y k seed (get_or self.now.lens k 0))
-            × (planes.u.items ≡ plane_of self.now PlaneType.UV (k + 1) (seed + 1) (get_or self.now.lens (k + 1) 0))
-            × (planes.v.items ≡ plane_of self.now PlaneType.UV (k + 2) (seed + 2) (get_or self.now.lens (k + 2) 0))) }
-    {
-        let seed = u32::from(self.seeds[usize::from(list)]);
-        let k = 3 * list;
-        Ok(Planes {
-            y: self.plane(alloc, PlaneType::Y, k, seed)?,
-            u: self.plane(alloc, PlaneType::UV, k + 1, seed + 1)?,
-            v: self.plane(alloc, PlaneType::UV, k + 2, seed + 2)?,
-        })
+        let mut planes = self.planes(list).planes(alloc, self.limit)?;
+        self.finish(list, Component::Y, &mut planes.y);
+        self.finish(list, Component::U, &mut planes.u);
+        self.finish(list, Component::V, &mut planes.v);
+        Ok(planes)
     }
 }
 
@@ -359,7 +470,7 @@ pub fn hash(samples: &[u16]) -> u32
 #[derive(Clone, Copy)]
 struct Others<'a>(&'a [u16]);
 
-impl<'a> Display for Others<'a> {
+impl Display for Others<'_> {
     ghost output = { λ s. Some (others s.0.now) };
 
     fn fmt<W: fmt::Write>(&self, f: &mut fmt::Formatter<W>) -> fmt::Result {
@@ -374,7 +485,7 @@ impl<'a> Display for Others<'a> {
 #[derive(Clone, Copy)]
 struct Spaced<'a>(&'a [u16]);
 
-impl<'a> Display for Spaced<'a> {
+impl Display for Spaced<'_> {
     ghost output = { λ s. Some (spaced s.0.now) };
 
     fn fmt<W: fmt::Write>(&self, f: &mut fmt::Formatter<W>) -> fmt::Result {
@@ -386,13 +497,28 @@ impl<'a> Display for Spaced<'a> {
 }
 
 // A row is printed whole, or as a number.
-fn print_row<W: Write>(out: &mut W, row: &[u16], whole: bool) -> io::Result<()>
-    ensures { OnOk result (Appends (W.contents out.old) (W.contents out.new) (row_line whole row.now)) }
+#[derive(Clone, Copy)]
+pub enum RowForm {
+    Whole,
+    Number,
+}
+
+// As a record asks for it: 1 stands for the rows whole.
+impl From<u16> for RowForm {
+    fn from(n: u16) -> RowForm {
+        match n {
+            1 => RowForm::Whole,
+            _ => RowForm::Number,
+        }
+    }
+}
+
+fn print_row<W: Write>(out: &mut W, row: &[u16], form: RowForm) -> io::Result<()>
+    ensures { OnOk result (Appends (W.contents out.old) (W.contents out.new) (row_line form row.now)) }
 {
-    if whole {
-        print_line(out, Spaced(row))
-    } else {
-        print_line(out, hash(row))
+    match form {
+        RowForm::Whole => print_line(out, Spaced(row)),
+        RowForm::Number => print_line(out, hash(row)),
     }
 }
 
@@ -401,30 +527,34 @@ pub fn print_rows<W: Write>(
     out: &mut W,
     samples: &[u16],
     stride: usize,
-    whole: bool,
+    form: RowForm,
 ) -> io::Result<()>
     requires { 0 < stride }
-    ensures { OnOk result (Appends (W.contents out.old) (W.contents out.new) (rows_text stride whole samples.now)) }
+    ensures { OnOk result (Appends (W.contents out.old) (W.contents out.new) (rows_text stride form samples.now)) }
 {
     for row in samples.chunks(stride) {
-        print_row(out, row, whole)?;
+        print_row(out, row, form)?;
     }
     Ok(())
+}
+
+// The flags of a call, behind the number that it returns.
+#[derive(Clone, Copy)]
+pub struct Flags(pub Result<u16, Refusal>);
+
+impl Display for Flags {
+    ghost output = { λ flags. Some (flags_text flags.0) };
+
+    fn fmt<W: fmt::Write>(&self, f: &mut fmt::Formatter<W>) -> fmt::Result {
+        let code = evc_def::code(self.0.map(|_| ()));
+        write!(f, "{code} {}", self.0.unwrap_or(0))
+    }
 }
 
 #[cfg(test)]
 mod tests {
     use super::*;
     use std::test::Fail;
-
-    #[derive(Drop)]
-    struct Byte(u8);
-
-    impl Record for Byte {
-        fn read<R: Read>(_alloc: Global, input: &mut R) -> io::Result<Option<Byte>> {
-            Ok(read_array::<R, 1>(input)?.map(|[byte]| Byte(byte)))
-        }
-    }
 
     #[test]
     fn makes_words_and_samples(rt: HostRuntime) -> Result<(), Fail> {
@@ -455,8 +585,8 @@ mod tests {
     fn runs_as_many_records_as_asked(rt: HostRuntime) -> Result<(), Fail> {
         let mut input = [1u8, 2, 3].as_slice();
         let mut last = 0;
-        for_each_record(rt.alloc(), &mut input, 2, |_, byte: Byte| {
-            last = byte.0;
+        for_each_record(rt.alloc(), &mut input, 2, |_, [byte]: [u8; 1]| {
+            last = byte;
             Ok(())
         })?;
         assert_eq!(rt; last, 2);
@@ -466,15 +596,10 @@ mod tests {
 
     #[test]
     fn makes_a_picture(rt: HostRuntime) -> Result<(), Fail> {
-        let mut r = [0u8; 30];
-        r[12] = 3;
-        let pictures = Pictures::new(&r);
-        let picture = pictures.picture(rt.alloc(), 0)?;
-        assert_eq!(rt; picture.y.len(), 3);
+        let numbers = [4, 4, 1, 0, 100, 0, 3, 0, 0, 0, 0, 0, 0, 1, 5];
+        let picture = Pictures::new(numbers).picture(rt.alloc(), RefList::List0)?;
+        assert_eq!(rt; picture.y.as_slice(), [76, 5, 27].as_slice());
         assert_eq!(rt; picture.v.len(), 0);
-        let mut lent = [0u16; 3];
-        pictures.fill_plane(PlaneType::Y, 0, 0, &mut lent);
-        assert_eq!(rt; picture.y.as_slice(), lent.as_slice());
         Ok(())
     }
 }

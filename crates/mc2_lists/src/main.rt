@@ -1,19 +1,17 @@
 //! Calls of block prediction: for each a line with the number returned, the reports of both lists and a number for each of the two blocks. rust/README.md has the records.
 #![tactic(auto)]
 
-ghost use Rattle.std.specs.Prelude.{◌+◌, ◌*◌, ◌<◌, ◌≤◌, ◌∷◌, ◌++◌, Some, length, vec_len, IfOk};
+ghost use Rattle.std.specs.Prelude.{◌≤◌, ◌∷◌, ◌++◌, Some, vec_len, IfOk};
 ghost use Rattle.std.specs.Fmt.{decimal};
-ghost use Rattle.mc2_lists.specs.declared.TheConstants.{MAX_BLOCK_LEN};
+ghost use Rattle.evc_lists.specs.declared.TheConstants.{MAX_BLOCK_LEN};
 
 use evc_clip::EvcMoved;
-use evc_def::EvcBlock;
-use evc_lists::{MAX_RECORDS, Pictures, Planes, Record, number, number32};
+use evc_def::{EvcBlock, RefList};
+use evc_lists::{Arbitrary, MAX_BLOCK_LEN, MAX_RECORDS, Pictures, Planes, number32, vector};
 use evc_mc::{EvcList, EvcPredicted, RefPicList};
 use std::alloc::{AllocError, Global};
 use std::io::{Read, Write};
 use std::{fmt, io};
-
-const MAX_BLOCK_LEN: usize = 8192;
 
 // The pictures of both lists, and how many calls on them follow.
 #[derive(Drop)]
@@ -30,8 +28,8 @@ struct Call {
     h: u32,
     list0: EvcList,
     list1: EvcList,
-    block_lens: [u16; 2],
-    block_seeds: [u16; 2],
+    block0: Arbitrary,
+    block1: Arbitrary,
 }
 
 #[derive(Clone, Copy)]
@@ -46,25 +44,47 @@ struct Answer {
 }
 
 impl From<[u8; 32]> for PicturesRecord {
-    fn from(r: [u8; 32]) -> PicturesRecord {
+    fn from(bytes: [u8; 32]) -> PicturesRecord {
+        let [calls] = evc_lists::numbers::<1>(&bytes[2 * 15..]);
         PicturesRecord {
-            pictures: Pictures::new(&r),
-            calls: number(&r, 15),
+            pictures: Pictures::new(evc_lists::numbers(&bytes)),
+            calls,
         }
     }
 }
 
-// A vector and a count, from number k on.
-fn list_of(r: &[u8; 32], used: bool, k: usize) -> EvcList
-    requires { 2 * k + 6 ≤ length r.now }
-{
-    EvcList {
-        used,
-        mv: evc_lists::vector(r, k),
-        poc: number32(r, k + 2),
+impl From<[u8; 32]> for Call {
+    fn from(bytes: [u8; 32]) -> Call {
+        let [x, y, w, h, used, x0, y0, poc0, x1, y1, poc1, len0, len1, seed0, seed1, _] =
+            evc_lists::numbers::<16>(&bytes);
+        Call {
+            x: number32(x),
+            y: number32(y),
+            w: number32(w),
+            h: number32(h),
+            list0: EvcList {
+                used: used % 2 == 1,
+                mv: vector(x0, y0),
+                poc: number32(poc0),
+            },
+            list1: EvcList {
+                used: used / 2 == 1,
+                mv: vector(x1, y1),
+                poc: number32(poc1),
+            },
+            block0: Arbitrary {
+                len: len0,
+                seed: seed0,
+            },
+            block1: Arbitrary {
+                len: len1,
+                seed: seed1,
+            },
+        }
     }
 }
 
+// No `From` of evc_lists: with one, each of the programs would stand on all the crates of evc_mc.
 fn ref_pic_list(list: EvcList, planes: &Planes) -> RefPicList<'_> {
     RefPicList {
         list,
@@ -73,34 +93,6 @@ fn ref_pic_list(list: EvcList, planes: &Planes) -> RefPicList<'_> {
             u: &planes.u,
             v: &planes.v,
         },
-    }
-}
-
-impl From<[u8; 32]> for Call {
-    fn from(r: [u8; 32]) -> Call {
-        let used = number(&r, 4);
-        Call {
-            x: number32(&r, 0),
-            y: number32(&r, 1),
-            w: number32(&r, 2),
-            h: number32(&r, 3),
-            list0: list_of(&r, used % 2 == 1, 5),
-            list1: list_of(&r, used / 2 == 1, 8),
-            block_lens: [number(&r, 11), number(&r, 12)],
-            block_seeds: [number(&r, 13), number(&r, 14)],
-        }
-    }
-}
-
-impl Record for PicturesRecord {
-    fn read<R: Read>(_alloc: Global, input: &mut R) -> io::Result<Option<PicturesRecord>> {
-        Ok(evc_lists::read_array(input)?.map(PicturesRecord::from))
-    }
-}
-
-impl Record for Call {
-    fn read<R: Read>(_alloc: Global, input: &mut R) -> io::Result<Option<Call>> {
-        Ok(evc_lists::read_array(input)?.map(Call::from))
     }
 }
 
@@ -121,6 +113,13 @@ impl fmt::Display for Answer {
     }
 }
 
+// A block holds arbitrary samples first.
+fn pred(alloc: Global, block: Arbitrary) -> Result<Vec<u16>, AllocError>
+    ensures { IfOk result (λ pred. vec_len pred ≤ MAX_BLOCK_LEN) }
+{
+    block.samples(alloc, MAX_BLOCK_LEN)
+}
+
 impl Call {
     fn block(&self, pictures: &Pictures) -> EvcBlock {
         EvcBlock {
@@ -131,15 +130,6 @@ impl Call {
             w: self.w,
             h: self.h,
         }
-    }
-
-    // The blocks hold arbitrary samples first.
-    fn pred(&self, alloc: Global, k: usize) -> Result<Vec<u16>, AllocError>
-        requires { k < 2 }
-        ensures { IfOk result (λ pred. vec_len pred ≤ MAX_BLOCK_LEN) }
-    {
-        let n = evc_lists::lent(self.block_lens[k], MAX_BLOCK_LEN);
-        evc_lists::samples(alloc, n, u32::from(self.block_seeds[k]))
     }
 
     fn predict(
@@ -162,8 +152,8 @@ impl Call {
         ref0: &Planes,
         ref1: &Planes,
     ) -> Result<Answer, AllocError> {
-        let mut pred0 = self.pred(alloc, 0)?;
-        let mut pred1 = self.pred(alloc, 1)?;
+        let mut pred0 = pred(alloc, self.block0)?;
+        let mut pred1 = pred(alloc, self.block1)?;
         let predicted = self.predict(block, ref0, ref1, &mut pred0, &mut pred1);
         Ok(Answer {
             predicted,
@@ -176,9 +166,10 @@ impl Call {
 impl PicturesRecord {
     // The pictures, and the calls that follow them; at the end of the input there are no more.
     fn run<R: Read, W: Write>(&self, alloc: Global, input: &mut R, out: &mut W) -> io::Result<()> {
-        let ref0 = self.pictures.picture(alloc, 0)?;
-        let ref1 = self.pictures.picture(alloc, 1)?;
-        evc_lists::for_each_record(alloc, input, usize::from(self.calls), |_, call: Call| {
+        let ref0 = self.pictures.picture(alloc, RefList::List0)?;
+        let ref1 = self.pictures.picture(alloc, RefList::List1)?;
+        evc_lists::for_each_record(alloc, input, usize::from(self.calls), |_, bytes: [u8; 32]| {
+            let call = Call::from(bytes);
             let answer = call.answer(alloc, call.block(&self.pictures), &ref0, &ref1)?;
             evc_lists::print_line(out, answer)
         })
@@ -192,6 +183,6 @@ fn main(rt: HostRuntime) -> io::Result<()> {
         alloc,
         &mut rt.reader(),
         MAX_RECORDS,
-        |input, record: PicturesRecord| record.run(alloc, input, &mut out),
+        |input, bytes: [u8; 32]| PicturesRecord::from(bytes).run(alloc, input, &mut out),
     )
 }

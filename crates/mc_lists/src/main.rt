@@ -4,16 +4,15 @@
 
 ghost use Rattle.std.specs.Prelude.{◌≤◌, ◌∷◌, ◌++◌, Some, vec_len, IfOk};
 ghost use Rattle.std.specs.Fmt.{decimal};
-ghost use Rattle.mc_lists.specs.declared.TheConstants.{MAX_BLOCK_LEN};
+ghost use Rattle.evc_def.specs.Refusals.{code_of};
+ghost use Rattle.evc_lists.specs.declared.TheConstants.{MAX_BLOCK_LEN};
 
-use evc_def::EvcMv;
-use evc_lists::{MAX_RECORDS, Record, is_one, number, vector};
+use evc_def::{EvcMv, Refusal};
+use evc_lists::{Arbitrary, MAX_BLOCK_LEN, MAX_RECORDS, RowForm, vector};
 use evc_plane::PlaneType;
 use std::alloc::{AllocError, Global};
 use std::io::{Read, Write};
 use std::{fmt, io};
-
-const MAX_BLOCK_LEN: usize = 8192;
 
 // A plane, and how many calls on it follow.
 #[derive(Clone, Copy)]
@@ -26,7 +25,7 @@ struct PlaneRecord {
     limit: u16,
     is_padded: bool,
     calls: u16,
-    is_whole: bool,
+    form: RowForm,
 }
 
 #[derive(Clone, Copy)]
@@ -35,63 +34,52 @@ struct Call {
     gmv: EvcMv,
     w: u16,
     h: u16,
-    block_len: u16,
-    block_seed: u16,
+    block: Arbitrary,
 }
 
 // What is printed of a block that is not printed whole.
 #[derive(Clone, Copy)]
 struct Answer {
-    code: u32,
+    done: Result<(), Refusal>,
     hash: u32,
 }
 
 impl From<[u8; 18]> for PlaneRecord {
-    fn from(r: [u8; 18]) -> PlaneRecord {
+    fn from(bytes: [u8; 18]) -> PlaneRecord {
+        let [plane_type, pic_w, pic_h, plane_len, seed, limit, is_padded, calls, form] =
+            evc_lists::numbers::<9>(&bytes);
         PlaneRecord {
-            plane_type: evc_lists::plane_type(&r, 0),
-            pic_w: number(&r, 1),
-            pic_h: number(&r, 2),
-            plane_len: number(&r, 3),
-            seed: number(&r, 4),
-            limit: number(&r, 5),
-            is_padded: is_one(&r, 6),
-            calls: number(&r, 7),
-            is_whole: is_one(&r, 8),
+            plane_type: evc_lists::plane_type(plane_type),
+            pic_w,
+            pic_h,
+            plane_len,
+            seed,
+            limit,
+            is_padded: is_padded == 1,
+            calls,
+            form: RowForm::from(form),
         }
     }
 }
 
 impl From<[u8; 16]> for Call {
-    fn from(r: [u8; 16]) -> Call {
+    fn from(bytes: [u8; 16]) -> Call {
+        let [ori_x, ori_y, x, y, w, h, len, seed] = evc_lists::numbers::<8>(&bytes);
         Call {
-            ori_mv: vector(&r, 0),
-            gmv: vector(&r, 2),
-            w: number(&r, 4),
-            h: number(&r, 5),
-            block_len: number(&r, 6),
-            block_seed: number(&r, 7),
+            ori_mv: vector(ori_x, ori_y),
+            gmv: vector(x, y),
+            w,
+            h,
+            block: Arbitrary { len, seed },
         }
     }
 }
 
-impl Record for PlaneRecord {
-    fn read<R: Read>(_alloc: Global, input: &mut R) -> io::Result<Option<PlaneRecord>> {
-        Ok(evc_lists::read_array(input)?.map(PlaneRecord::from))
-    }
-}
-
-impl Record for Call {
-    fn read<R: Read>(_alloc: Global, input: &mut R) -> io::Result<Option<Call>> {
-        Ok(evc_lists::read_array(input)?.map(Call::from))
-    }
-}
-
 impl fmt::Display for Answer {
-    ghost output = { λ a. Some (decimal a.code ++ 32 ∷ decimal a.hash) };
+    ghost output = { λ a. Some (decimal (code_of a.done) ++ 32 ∷ decimal a.hash) };
 
     fn fmt<W: fmt::Write>(&self, f: &mut fmt::Formatter<W>) -> fmt::Result {
-        write!(f, "{} {}", self.code, self.hash)
+        write!(f, "{} {}", evc_def::code(self.done), self.hash)
     }
 }
 
@@ -105,7 +93,8 @@ impl PlaneRecord {
         )
     }
 
-    // A plane that is too short to be padded stays.
+    // A plane that is too short to be padded stays. `Pictures::pad` of evc_lists says the same of another record, and what both would share is this
+    // call of evc_pad alone.
     fn pad(&self, plane: &mut [u16]) {
         if self.is_padded {
             let _ = evc_pad::pad(
@@ -117,8 +106,8 @@ impl PlaneRecord {
         }
     }
 
-    fn predict(&self, plane: &[u16], call: &Call, pred: &mut [u16]) -> u32 {
-        evc_def::code(evc_interp::evc_mc_plane(
+    fn predict(&self, plane: &[u16], call: &Call, pred: &mut [u16]) -> Result<(), Refusal> {
+        evc_interp::evc_mc_plane(
             self.plane_type,
             u32::from(self.pic_w),
             u32::from(self.pic_h),
@@ -128,7 +117,7 @@ impl PlaneRecord {
             u32::from(call.h),
             plane,
             pred,
-        ))
+        )
     }
 
     fn run_call<W: Write>(
@@ -139,21 +128,22 @@ impl PlaneRecord {
         call: &Call,
     ) -> io::Result<()> {
         let mut pred = call.block(alloc)?;
-        let code = self.predict(plane, call, &mut pred);
-        if !self.is_whole {
-            let hash = evc_lists::hash(&pred);
-            return evc_lists::print_line(out, Answer { code, hash });
+        let done = self.predict(plane, call, &mut pred);
+        match self.form {
+            RowForm::Whole => call.print_block(out, done, &pred),
+            RowForm::Number => {
+                let hash = evc_lists::hash(&pred);
+                evc_lists::print_line(out, Answer { done, hash })
+            },
         }
-        evc_lists::print_line(out, code)?;
-        call.print_block(out, &pred)
     }
 
     // The plane, and the calls that follow it; at the end of the input there are no more.
     fn run<R: Read, W: Write>(&self, alloc: Global, input: &mut R, out: &mut W) -> io::Result<()> {
         let mut plane = self.samples(alloc)?;
         self.pad(&mut plane);
-        evc_lists::for_each_record(alloc, input, usize::from(self.calls), |_, call: Call| {
-            self.run_call(alloc, out, &plane, &call)
+        evc_lists::for_each_record(alloc, input, usize::from(self.calls), |_, bytes: [u8; 16]| {
+            self.run_call(alloc, out, &plane, &Call::from(bytes))
         })
     }
 }
@@ -163,15 +153,20 @@ impl Call {
     fn block(&self, alloc: Global) -> Result<Vec<u16>, AllocError>
         ensures { IfOk result (λ pred. vec_len pred ≤ MAX_BLOCK_LEN) }
     {
-        let n = evc_lists::lent(self.block_len, MAX_BLOCK_LEN);
-        evc_lists::samples(alloc, n, u32::from(self.block_seed))
+        self.block.samples(alloc, MAX_BLOCK_LEN)
     }
 
-    fn print_block<W: Write>(&self, out: &mut W, pred: &[u16]) -> io::Result<()> {
+    fn print_block<W: Write>(
+        &self,
+        out: &mut W,
+        done: Result<(), Refusal>,
+        pred: &[u16],
+    ) -> io::Result<()> {
+        evc_lists::print_line(out, evc_def::code(done))?;
         if self.w == 0 {
             return Ok(());
         }
-        evc_lists::print_rows(out, pred, usize::from(self.w), true)
+        evc_lists::print_rows(out, pred, usize::from(self.w), RowForm::Whole)
     }
 }
 
@@ -182,6 +177,6 @@ fn main(rt: HostRuntime) -> io::Result<()> {
         alloc,
         &mut rt.reader(),
         MAX_RECORDS,
-        |input, plane: PlaneRecord| plane.run(alloc, input, &mut out),
+        |input, bytes: [u8; 18]| PlaneRecord::from(bytes).run(alloc, input, &mut out),
     )
 }

@@ -3,11 +3,12 @@
 
 ghost use Rattle.std.specs.Prelude.{◌≡◌, vec_len, IfOk};
 
-use evc_lists::{MAX_RECORDS, Record, is_one, number};
+use evc_def::Refusal;
+use evc_lists::{MAX_RECORDS, RowForm};
 use evc_plane::PlaneType;
 use std::alloc::{AllocError, Global};
 use std::io;
-use std::io::{Read, Write};
+use std::io::Write;
 
 // A plane to pad: its picture, how many samples it has, and how these are made.
 #[derive(Clone, Copy)]
@@ -23,35 +24,42 @@ struct Call {
     stride: u16,
     width: u16,
     height: u16,
-    is_whole: bool,
+    form: RowForm,
 }
 
 impl From<[u8; 22]> for Call {
-    fn from(r: [u8; 22]) -> Call {
+    fn from(bytes: [u8; 22]) -> Call {
+        let [
+            plane_type,
+            pic_w,
+            pic_h,
+            plane_len,
+            seed,
+            limit,
+            first,
+            stride,
+            width,
+            height,
+            form,
+        ] = evc_lists::numbers::<11>(&bytes);
         Call {
-            plane_type: evc_lists::plane_type(&r, 0),
-            pic_w: number(&r, 1),
-            pic_h: number(&r, 2),
-            plane_len: number(&r, 3),
-            seed: number(&r, 4),
-            limit: number(&r, 5),
-            first: number(&r, 6),
-            stride: number(&r, 7),
-            width: number(&r, 8),
-            height: number(&r, 9),
-            is_whole: is_one(&r, 10),
+            plane_type: evc_lists::plane_type(plane_type),
+            pic_w,
+            pic_h,
+            plane_len,
+            seed,
+            limit,
+            first,
+            stride,
+            width,
+            height,
+            form: RowForm::from(form),
         }
     }
 }
 
-impl Record for Call {
-    fn read<R: Read>(_alloc: Global, input: &mut R) -> io::Result<Option<Call>> {
-        Ok(evc_lists::read_array(input)?.map(Call::from))
-    }
-}
-
 impl Call {
-    // Each row of the picture, if the plane has all of it. Rows may overlap, so that they are no chunks.
+    // Each row of the picture, if the plane has all of it. Rows may overlap, so that they are no chunks, and the stride may be 0, which is no step.
     fn reduce_picture(&self, plane: &mut [u16]) {
         for y in 0..self.height {
             let at = usize::from(self.first) + usize::from(y) * usize::from(self.stride);
@@ -71,29 +79,29 @@ impl Call {
         Ok(plane)
     }
 
-    fn pad(&self, plane: &mut [u16]) -> u32 {
-        evc_def::code(evc_pad::pad(
+    fn pad(&self, plane: &mut [u16]) -> Result<(), Refusal> {
+        evc_pad::pad(
             self.plane_type,
             u32::from(self.pic_w),
             u32::from(self.pic_h),
             plane,
-        ))
+        )
     }
 
     fn run<W: Write>(&self, alloc: Global, out: &mut W) -> io::Result<()> {
         let mut plane = self.plane(alloc)?;
-        evc_lists::print_line(out, self.pad(&mut plane))?;
+        evc_lists::print_line(out, evc_def::code(self.pad(&mut plane)))?;
         if self.stride == 0 {
             return Ok(());
         }
-        evc_lists::print_rows(out, &plane, usize::from(self.stride), self.is_whole)
+        evc_lists::print_rows(out, &plane, usize::from(self.stride), self.form)
     }
 }
 
 fn main(rt: HostRuntime) -> io::Result<()> {
     let alloc = rt.alloc();
     let mut out = io::writer(&rt);
-    evc_lists::for_each_record(alloc, &mut rt.reader(), MAX_RECORDS, |_, call: Call| {
-        call.run(alloc, &mut out)
+    evc_lists::for_each_record(alloc, &mut rt.reader(), MAX_RECORDS, |_, bytes: [u8; 22]| {
+        Call::from(bytes).run(alloc, &mut out)
     })
 }

@@ -1,12 +1,12 @@
 //! Traces, each with its pictures: for each a line with the number returned, the index, the counts and a number for each plane of the target. rust/README.md has the records.
 #![tactic(auto)]
 
-ghost use Rattle.std.specs.Prelude.{◌≤◌, ◌∷◌, ◌++◌, Some, vec_len, IfOk, IfSome};
+ghost use Rattle.std.specs.Prelude.{◌≤◌, ◌∷◌, ◌++◌, Some, vec_len};
 ghost use Rattle.std.specs.Fmt.{decimal};
-ghost use Rattle.std.specs.Io.KnownBytes.{Consumes};
 ghost use Rattle.replay_lists.specs.declared.TheConstants.{MAX_TRACE_LEN};
 
-use evc_lists::{MAX_RECORDS, Pictures, Planes, Record, is_one, number};
+use evc_def::RefList;
+use evc_lists::{Arbitrary, ArbitraryPlanes, MAX_RECORDS, Pictures, Planes, Record};
 use evc_replay::EvcReplay;
 use std::alloc::{AllocError, Global};
 use std::io::{Read, Write};
@@ -19,29 +19,20 @@ const MAX_TRACE_LEN: usize = 4096;
 // The samples of a target are below this.
 const TARGET_LIMIT: u16 = 1024;
 
-// The planes of the target: their seed, and their lengths.
-#[derive(Clone, Copy)]
-struct TargetRecord {
-    seed: u16,
-    y_len: u16,
-    u_len: u16,
-    v_len: u16,
-}
-
 // The collocated map: arbitrary numbers of a span, around 0.
 #[derive(Clone, Copy)]
 struct MapRecord {
-    len: u16,
-    seed: u16,
+    arbitrary: Arbitrary,
     span: u16,
 }
 
 #[derive(Drop)]
 struct Call {
     pictures: Pictures,
-    target: TargetRecord,
+    target: ArbitraryPlanes,
     map: Option<MapRecord>,
     trace: Vec<u8>,
+    ghost lent: { vec_len trace ≤ MAX_TRACE_LEN },
 }
 
 // What a call leaves of a target: a number for each plane.
@@ -60,17 +51,6 @@ struct Answer {
 
 // ---- a record
 
-impl TargetRecord {
-    fn planes(self, alloc: Global) -> Result<Planes, AllocError> {
-        let seed = u32::from(self.seed);
-        Ok(Planes {
-            y: evc_lists::samples_below(alloc, usize::from(self.y_len), seed, TARGET_LIMIT)?,
-            u: evc_lists::samples_below(alloc, usize::from(self.u_len), seed + 1, TARGET_LIMIT)?,
-            v: evc_lists::samples_below(alloc, usize::from(self.v_len), seed + 2, TARGET_LIMIT)?,
-        })
-    }
-}
-
 impl MapRecord {
     // An arbitrary number of the span, around 0; without a span all are 0.
     fn centred(self, arbitrary: u16) -> i16 {
@@ -81,57 +61,49 @@ impl MapRecord {
     }
 
     fn numbers(self, alloc: Global) -> Result<Vec<i16>, AllocError> {
-        let n = evc_lists::lent(self.len, MAX_MAP_LEN);
-        evc_lists::samples(alloc, n, u32::from(self.seed))?
+        self.arbitrary
+            .samples(alloc, MAX_MAP_LEN)?
             .iter()
             .map(|arbitrary| self.centred(*arbitrary))
             .collect(alloc)
     }
 }
 
-fn read_trace<R: Read>(alloc: Global, input: &mut R, asked: u16) -> io::Result<Option<Vec<u8>>>
-    ensures length { IfOk result (λ read. IfSome read (λ trace. vec_len trace ≤ MAX_TRACE_LEN)) }
-    ensures taken { IfOk result (λ read. IfSome read (λ trace. Consumes (R.remaining input.old) (R.remaining input.new) trace.items)) }
-{
-    let n = evc_lists::lent(asked, MAX_TRACE_LEN);
-    evc_lists::read_vec(alloc, input, n)
-}
-
-impl Call {
-    fn new(r: &[u8; 48], trace: Vec<u8>) -> Call {
-        Call {
-            pictures: Pictures::new(r),
-            target: TargetRecord {
-                seed: number(r, 15),
-                y_len: number(r, 16),
-                u_len: number(r, 17),
-                v_len: number(r, 18),
-            },
-            map: is_one(r, 19).then_some(MapRecord {
-                len: number(r, 20),
-                seed: number(r, 21),
-                span: number(r, 22),
-            }),
-            trace,
-        }
-    }
-}
-
 // The bytes of the trace follow the numbers.
 impl Record for Call {
     fn read<R: Read>(alloc: Global, input: &mut R) -> io::Result<Option<Call>> {
-        let Some(r) = evc_lists::read_array(input)? else {
+        let Some(bytes) = evc_lists::read_array::<R, 48>(input)? else {
             return Ok(None)
         };
-        let Some(trace) = read_trace(alloc, input, number(&r, 23))? else {
+        let [seed, y_len, u_len, v_len, has_map, map_len, map_seed, span, asked] =
+            evc_lists::numbers::<9>(&bytes[2 * 15..]);
+        let Some(trace) = evc_lists::read_lent(alloc, input, asked, MAX_TRACE_LEN)? else {
             return Ok(None)
         };
-        Ok(Some(Call::new(&r, trace)))
+        let map = MapRecord {
+            arbitrary: Arbitrary {
+                len: map_len,
+                seed: map_seed,
+            },
+            span,
+        };
+        Ok(Some(Call {
+            pictures: Pictures::new(evc_lists::numbers(&bytes)),
+            target: ArbitraryPlanes {
+                seed,
+                y_len,
+                u_len,
+                v_len,
+            },
+            map: (has_map == 1).then_some(map),
+            trace,
+        }))
     }
 }
 
 // ---- a call
 
+// No `From` of evc_lists: with one, each of the programs would stand on all the crates of evc_mc.
 fn lent(planes: &Planes) -> evc_mc::Planes<'_> {
     evc_mc::Planes {
         y: &planes.y,
@@ -164,10 +136,10 @@ impl Call {
     }
 
     fn answer(&self, alloc: Global) -> Result<Answer, AllocError> {
-        let ref0 = self.pictures.picture(alloc, 0)?;
-        let ref1 = self.pictures.picture(alloc, 1)?;
+        let ref0 = self.pictures.picture(alloc, RefList::List0)?;
+        let ref1 = self.pictures.picture(alloc, RefList::List1)?;
         let map = self.map(alloc)?;
-        let mut target = self.target.planes(alloc)?;
+        let mut target = self.target.planes(alloc, TARGET_LIMIT)?;
         let replayed = self.replay(&ref0, &ref1, map.as_deref(), &mut target);
         let target = Hashes {
             y: evc_lists::hash(&target.y),

@@ -1,15 +1,10 @@
 //! Calls for the flags in slices: for each a line with the number returned and the flags. rust/README.md has the records.
 #![tactic(auto)]
 
-ghost use Rattle.std.specs.Prelude.{◌∷◌, ◌++◌, Some};
-ghost use Rattle.std.specs.Fmt.{decimal};
-
-use evc_avail::EvcAvail;
 use evc_def::EvcBlock;
-use evc_lists::{MAX_RECORDS, Record, number, number32};
+use evc_lists::{Flags, MAX_RECORDS, number32};
 use std::alloc::{AllocError, Global};
-use std::io::Read;
-use std::{fmt, io};
+use std::io;
 
 const MAX_WORDS: usize = 16;
 
@@ -23,9 +18,7 @@ struct Call {
     words: Vec<u32>,
 }
 
-#[derive(Clone, Copy)]
-struct Answer(EvcAvail);
-
+// The map of camera_lists is made so too, of numbers of another width: one function for both would take the width and the conversion, which is all of it.
 fn words_of(alloc: Global, bytes: &[u8]) -> Result<Vec<u32>, AllocError> {
     let (words, _) = bytes.as_chunks::<4>();
     words
@@ -34,43 +27,26 @@ fn words_of(alloc: Global, bytes: &[u8]) -> Result<Vec<u32>, AllocError> {
         .collect(alloc)
 }
 
-fn call_of(alloc: Global, r: &[u8; 80]) -> Result<Call, AllocError> {
-    let n = evc_lists::lent(number(r, 7), MAX_WORDS);
-    Ok(Call {
-        block: evc_lists::block(r, 0),
-        slice_num: number32(r, 6),
-        words: words_of(alloc, &r[FIRST_WORD..FIRST_WORD + 4 * n])?,
-    })
-}
-
-impl Record for Call {
-    fn read<R: Read>(alloc: Global, input: &mut R) -> io::Result<Option<Call>> {
-        let Some(r) = evc_lists::read_array(input)? else {
-            return Ok(None)
-        };
-        Ok(Some(call_of(alloc, &r)?))
-    }
-}
-
 impl Call {
-    fn answer(&self) -> Answer {
-        let got = evc_avail::get_avail_inter_slice(self.block, self.slice_num, &self.words);
-        Answer(got.into())
+    fn new(alloc: Global, bytes: &[u8; 80]) -> Result<Call, AllocError> {
+        let [slice_num, asked] = evc_lists::numbers::<2>(&bytes[2 * 6..]);
+        let n = evc_lists::lent(asked, MAX_WORDS);
+        Ok(Call {
+            block: evc_lists::block(evc_lists::numbers(bytes)),
+            slice_num: number32(slice_num),
+            words: words_of(alloc, &bytes[FIRST_WORD..FIRST_WORD + 4 * n])?,
+        })
     }
-}
 
-impl fmt::Display for Answer {
-    ghost output = { λ a. Some (decimal a.0.code ++ 32 ∷ decimal a.0.avail) };
-
-    fn fmt<W: fmt::Write>(&self, f: &mut fmt::Formatter<W>) -> fmt::Result {
-        write!(f, "{} {}", self.0.code, self.0.avail)
+    fn answer(&self) -> Flags {
+        Flags(evc_avail::get_avail_inter_slice(self.block, self.slice_num, &self.words))
     }
 }
 
 fn main(rt: HostRuntime) -> io::Result<()> {
     let alloc = rt.alloc();
     let mut out = io::writer(&rt);
-    evc_lists::for_each_record(alloc, &mut rt.reader(), MAX_RECORDS, |_, call: Call| {
-        evc_lists::print_line(&mut out, call.answer())
+    evc_lists::for_each_record(alloc, &mut rt.reader(), MAX_RECORDS, |_, bytes: [u8; 80]| {
+        evc_lists::print_line(&mut out, Call::new(alloc, &bytes)?.answer())
     })
 }

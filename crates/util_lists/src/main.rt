@@ -2,15 +2,14 @@
 #![tactic(auto)]
 
 ghost use Rattle.std.specs.Prelude.{◌+◌, ◌<◌, ◌≤◌, ◌∷◌, ◌++◌, Some};
-ghost use Rattle.std.specs.Fmt.{decimal, signed_decimal};
+ghost use Rattle.std.specs.Fmt.{signed_decimal};
 
-use evc_avail::EvcAvail;
-use evc_def::{EvcBlock, EvcMv};
+use evc_def::{EvcBlock, EvcMv, Refusal};
 use evc_direct::{EvcDirect, Pocs};
-use evc_lists::{MAX_RECORDS, Record, is_one, number, number32};
+use evc_lists::{Flags, MAX_RECORDS, number32};
 use evc_motion::EvcCandidates;
 use std::alloc::{AllocError, Global};
-use std::io::{Read, Write};
+use std::io::Write;
 use std::{fmt, io};
 
 const RECORD_LEN: usize = 32;
@@ -42,28 +41,18 @@ struct FlagsCall {
     words: Vec<u32>,
 }
 
-#[derive(Clone, Copy)]
-struct Flags(EvcAvail);
-
 impl FlagsCall {
-    fn new(alloc: Global, r: &[u8; RECORD_LEN]) -> Result<FlagsCall, AllocError> {
-        let n = evc_lists::lent(number(r, 7), MAX_WORDS);
+    fn new(alloc: Global, bytes: &[u8; RECORD_LEN]) -> Result<FlagsCall, AllocError> {
+        let [asked] = evc_lists::numbers::<1>(&bytes[2 * 7..]);
+        let n = evc_lists::lent(asked, MAX_WORDS);
         Ok(FlagsCall {
-            block: evc_lists::block(r, 1),
-            words: evc_lists::words_of(alloc, &r[FIRST_STATE..FIRST_STATE + n])?,
+            block: evc_lists::block(evc_lists::numbers(&bytes[2..])),
+            words: evc_lists::words_of(alloc, &bytes[FIRST_STATE..FIRST_STATE + n])?,
         })
     }
 
     fn answer(&self) -> Flags {
-        Flags(evc_avail::get_avail_inter(self.block, &self.words).into())
-    }
-}
-
-impl fmt::Display for Flags {
-    ghost output = { λ a. Some (decimal a.0.code ++ 32 ∷ decimal a.0.avail) };
-
-    fn fmt<W: fmt::Write>(&self, f: &mut fmt::Formatter<W>) -> fmt::Result {
-        write!(f, "{} {}", self.0.code, self.0.avail)
+        Flags(evc_avail::get_avail_inter(self.block, &self.words))
     }
 }
 
@@ -84,13 +73,6 @@ struct Sequence {
 }
 
 impl Sequence {
-    fn new(r: &[u8; RECORD_LEN]) -> Sequence {
-        Sequence {
-            seed: number(r, 9),
-            step: number(r, 10),
-        }
-    }
-
     fn at(self, k: u16) -> i16 {
         self.seed
             .wrapping_add(self.step.wrapping_mul(k))
@@ -111,13 +93,15 @@ impl Sequence {
     }
 }
 
-// The collocated map, if the record has one.
-fn col_of(alloc: Global, r: &[u8; RECORD_LEN]) -> Result<Option<Vec<i16>>, AllocError> {
-    if !is_one(r, 7) {
-        return Ok(None);
-    }
-    let n = evc_lists::lent(number(r, 8), MAX_MAP_LEN);
-    Ok(Some(Sequence::new(r).map(alloc, COL_FROM, n)?))
+// The collocated map, if the record has one: so many numbers of it are lent.
+fn col_of(
+    alloc: Global,
+    asked: Option<u16>,
+    made: Sequence,
+) -> Result<Option<Vec<i16>>, AllocError> {
+    asked
+        .map(|asked| made.map(alloc, COL_FROM, evc_lists::lent(asked, MAX_MAP_LEN)))
+        .transpose()
 }
 
 // ---- candidates
@@ -132,10 +116,11 @@ struct CandidatesCall {
     old: EvcCandidates,
 }
 
+// What a call gives, and what it leaves where it is refused.
 #[derive(Clone, Copy)]
 struct Candidates {
-    code: u32,
-    candidates: EvcCandidates,
+    found: Result<EvcCandidates, Refusal>,
+    old: EvcCandidates,
 }
 
 fn old_of(made: Sequence) -> EvcCandidates {
@@ -149,20 +134,22 @@ fn old_of(made: Sequence) -> EvcCandidates {
 }
 
 impl CandidatesCall {
-    fn new(alloc: Global, r: &[u8; RECORD_LEN]) -> Result<CandidatesCall, AllocError> {
-        let made = Sequence::new(r);
+    fn new(alloc: Global, bytes: &[u8; RECORD_LEN]) -> Result<CandidatesCall, AllocError> {
+        let [has_col, col_len, seed, step, lidx, avail, map_len, _, _] =
+            evc_lists::numbers::<9>(&bytes[2 * 7..]);
+        let made = Sequence { seed, step };
         Ok(CandidatesCall {
-            block: evc_lists::block(r, 1),
-            lidx: number32(r, 11),
-            avail: number(r, 12),
-            map: made.map(alloc, 0, evc_lists::lent(number(r, 13), MAX_MAP_LEN))?,
-            col: col_of(alloc, r)?,
+            block: evc_lists::block(evc_lists::numbers(&bytes[2..])),
+            lidx: number32(lidx),
+            avail,
+            map: made.map(alloc, 0, evc_lists::lent(map_len, MAX_MAP_LEN))?,
+            col: col_of(alloc, (has_col == 1).then_some(col_len), made)?,
             old: old_of(made),
         })
     }
 
     fn answer(&self) -> Candidates {
-        let got = evc_motion::get_motion(
+        let found = evc_motion::get_motion(
             self.block,
             self.lidx,
             self.avail,
@@ -171,16 +158,16 @@ impl CandidatesCall {
             self.old,
         );
         Candidates {
-            code: evc_def::code(got.map(|_| ())),
-            candidates: got.unwrap_or(self.old),
+            found,
+            old: self.old,
         }
     }
 }
 
 impl fmt::Display for Candidates {
     fn fmt<W: fmt::Write>(&self, f: &mut fmt::Formatter<W>) -> fmt::Result {
-        let c = self.candidates;
-        write!(f, "{}", self.code)?;
+        let c = self.found.unwrap_or(self.old);
+        write!(f, "{}", evc_def::code(self.found.map(|_| ())))?;
         write!(f, "{}{}", Vector(c.left), Vector(c.up))?;
         write!(f, "{}{}", Vector(c.up_right), Vector(c.collocated))?;
         for refi in c.refi {
@@ -202,21 +189,20 @@ struct DirectCall {
 #[derive(Clone, Copy)]
 struct Direct(EvcDirect);
 
-fn pocs_of(r: &[u8; RECORD_LEN]) -> Pocs {
-    Pocs {
-        poc: number32(r, 11),
-        poc0: number32(r, 12),
-        poc1: number32(r, 13),
-        list_poc0: number32(r, 14),
-    }
-}
-
 impl DirectCall {
-    fn new(alloc: Global, r: &[u8; RECORD_LEN]) -> Result<DirectCall, AllocError> {
+    fn new(alloc: Global, bytes: &[u8; RECORD_LEN]) -> Result<DirectCall, AllocError> {
+        let [has_col, col_len, seed, step, poc, poc0, poc1, list_poc0, _] =
+            evc_lists::numbers::<9>(&bytes[2 * 7..]);
+        let made = Sequence { seed, step };
         Ok(DirectCall {
-            block: evc_lists::block(r, 1),
-            pocs: pocs_of(r),
-            col: col_of(alloc, r)?,
+            block: evc_lists::block(evc_lists::numbers(&bytes[2..])),
+            pocs: Pocs {
+                poc: number32(poc),
+                poc0: number32(poc0),
+                poc1: number32(poc1),
+                list_poc0: number32(list_poc0),
+            },
+            col: col_of(alloc, (has_col == 1).then_some(col_len), made)?,
         })
     }
 
@@ -243,11 +229,11 @@ enum Call {
 
 impl Call {
     // Number 0 tells which.
-    fn new(alloc: Global, r: &[u8; RECORD_LEN]) -> Result<Call, AllocError> {
-        Ok(match number(r, 0) {
-            0 => Call::Flags(FlagsCall::new(alloc, r)?),
-            1 => Call::Candidates(CandidatesCall::new(alloc, r)?),
-            _ => Call::Direct(DirectCall::new(alloc, r)?),
+    fn new(alloc: Global, bytes: &[u8; RECORD_LEN]) -> Result<Call, AllocError> {
+        Ok(match evc_lists::numbers::<1>(bytes) {
+            [0] => Call::Flags(FlagsCall::new(alloc, bytes)?),
+            [1] => Call::Candidates(CandidatesCall::new(alloc, bytes)?),
+            _ => Call::Direct(DirectCall::new(alloc, bytes)?),
         })
     }
 
@@ -260,19 +246,10 @@ impl Call {
     }
 }
 
-impl Record for Call {
-    fn read<R: Read>(alloc: Global, input: &mut R) -> io::Result<Option<Call>> {
-        let Some(r) = evc_lists::read_array(input)? else {
-            return Ok(None)
-        };
-        Ok(Some(Call::new(alloc, &r)?))
-    }
-}
-
 fn main(rt: HostRuntime) -> io::Result<()> {
     let alloc = rt.alloc();
     let mut out = io::writer(&rt);
-    evc_lists::for_each_record(alloc, &mut rt.reader(), MAX_RECORDS, |_, call: Call| {
-        call.run(&mut out)
+    evc_lists::for_each_record(alloc, &mut rt.reader(), MAX_RECORDS, |_, bytes: [u8; RECORD_LEN]| {
+        Call::new(alloc, &bytes)?.run(&mut out)
     })
 }

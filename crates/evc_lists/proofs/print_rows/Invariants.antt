@@ -7,5 +7,5 @@ use Rattle.evc_lists.proofs.print_rows.Given as goal
 abbrev pub invariant-loop-row : goal.invariant-loop-row
 invariant-loop-row g l =
     (l.row-iterator.size ≡ l.stride)
-    × ((last : Option (List ℕ)) → Appends (g.W.Write.contents l.out) last (rows_text l.stride l.whole l.row-iterator.rest.now)
-    → Appends (g.W.Write.contents l.fn.out) last (rows_text l.stride l.whole l.samples))
+    × ((last : Option (List ℕ)) → Appends (g.W.Write.contents l.out) last (rows_text l.stride l.form l.row-iterator.rest.now)
+    → Appends (g.W.Write.contents l.fn.out) last (rows_text l.stride l.form l.samples))

@@ -6,8 +6,8 @@ use Rattle.camera_lists.proofs.CallRecord.read.Goals as goal
 
 pub returns : goal.returns
 returns g c =
-    let numbers : Consumes (g.R.Read.remaining c.args.input.now) (g.R.Read.remaining c.read_array.new.input) c.in-Some.r = search rules in
-    let states : Consumes (g.R.Read.remaining c.read_array.new.input) (g.R.Read.remaining c.read_states.new.input) c.in-Some-2.states.items = search rules in
-    let map : Consumes (g.R.Read.remaining c.read_states.new.input) (g.R.Read.remaining c.read_vec.new.input) c.in-Some-3.bytes.items = search rules in
+    let numbers : Consumes (g.R.Read.remaining c.args.input.now) (g.R.Read.remaining c.read_array.new.input) c.in-Some.bytes = search rules in
+    let states : Consumes (g.R.Read.remaining c.read_array.new.input) (g.R.Read.remaining c.read_lent.new.input) c.in-Some-2.states.items = search rules in
+    let map : Consumes (g.R.Read.remaining c.read_lent.new.input) (g.R.Read.remaining c.read_vec.new.input) c.in-Some-3.map.items = search rules in
     let both = Consumes-trans _ _ _ _ _ numbers states in
     (_, Consumes-trans _ _ _ _ _ both map)
