@@ -9,7 +9,7 @@ use lib.Dec.{eqb, lit<}
 use lib.IntN.{ℤ, pos, ◌+ℤ◌, ◌*ℤ◌}
 use lib.ListN.{length}
 use Rattle.evc_int.specs.Whole.{−◌, ◌⁺}
-use Rattle.evc_int.proofs.Expressions.{!, ◌⊕◌, ◌⊗◌, solve, fact}
+use Rattle.evc_int.proofs.Expressions.{ !, ◌⊕◌, ◌⊗◌, solve, fact}
 use Rattle.evc_int.proofs.Division.{split_only}
 use Rattle.evc_def.specs.declared.EvcBlock.{EvcBlock}
 use Rattle.evc_def.specs.declared.EvcMv.{EvcMv}
