@@ -31,13 +31,7 @@ fn flags(b: EvcBlock) -> u32 {
 
 fn candidates(b: EvcBlock) -> u32 {
     let map = [0; MOTION_LEN];
-    let old = EvcCandidates {
-        left: EvcMv::default(),
-        up: EvcMv::default(),
-        up_right: EvcMv::default(),
-        collocated: EvcMv::default(),
-        refi: [0; 4],
-    };
+    let old = EvcCandidates::default();
     number(evc_motion::get_motion(b, 0, 0, &map, Some(&map), old))
 }
 

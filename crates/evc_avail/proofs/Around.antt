@@ -1,5 +1,6 @@
 -- The units around an allowed block: whether the picture has them, and their indices. Assumes nothing.
-use Rattle.std.proofs.Common.{◌≡◌, ℕ, zero, suc, ◌+◌, ◌-◌, ◌*◌, ◌<◌, ◌≤◌, Bool, true, false, not, ◌&&◌, T, eqb, ltb, leb, List, Option, Some, None, IfSome, sym, refl, ap, ◌∙◌, subst, add-mul, arith, leb→le, ltb-false, ltb-true, eqb-true, le-leb}
+use Rattle.std.proofs.Common.{◌≡◌, ℕ, ◌+◌, ◌-◌, ◌*◌, ◌<◌, ◌≤◌, Bool, true, false, not, ◌&&◌, T, eqb, ltb, leb, List, Option, Some, None, IfSome, sym, refl, ap, ◌∙◌, subst, add-mul, arith, leb→le, ltb-false, ltb-true, eqb-true, le-leb}
+use Rattle.std.proofs.Math.Nat.{pos_of_ne-zero}
 use Rattle.std.proofs.lemmas.Option.{none-some, same_Some}
 use Rattle.std.specs.Bool.{then_some}
 use borrow.Author.Tests.{eqb-false, not-true, not-false}
@@ -56,10 +57,6 @@ apart a b t l = by_test (ltb a b) refl
     by_test : (s : Bool) → ltb a b ≡ s → a < b
     by_test true e = ltb-true a b e
     by_test false e = let k = ltb-false a b e in absurd (eqb-false a b (not-true (eqb a b) t) (omega arith))
-
-pub positive : (a : ℕ) → (a ≡ 0 → ⊥) → 0 < a
-positive zero n = absurd (n refl)
-positive (suc k) n = omega arith
 
 same : (a b : ℕ) → not (eqb a b) ≡ false → a ≡ b
 same a b t = eqb-true a b (not-false (eqb a b) t)
@@ -130,7 +127,7 @@ module _ (b : EvcBlock) (p : Allowed b.pic_w b.x b.w) (q : Allowed b.pic_h b.y b
       by_test : (t : Bool) → eqb b.y 0 ≡ t → b.y ≡ 0
       by_test true t = eqb-true b.y 0 t
       by_test false t =
-          let l = positive b.y (eqb-false b.y 0 t) in
+          let l = pos_of_ne-zero (eqb-false b.y 0 t) in
           let h = has b (first_column b) (above b) (record { left = omega arith; right = omega arith; top = omega arith; bottom = omega arith }) in
           absurd (subst T (sym h ∙ no_unit b (first_column b) (above b) e) tt)
 

@@ -1,28 +1,12 @@
 -- The flags from the values that the code computes. Assumes nothing.
-use Rattle.std.proofs.Common.{◌≡◌, ℕ, ◌+◌, Bool, true, false, cond, List, sym}
+use Rattle.std.proofs.Common.{◌≡◌, ℕ, ◌+◌, Bool, cond, List, sym}
 use Rattle.evc_def.specs.Blocks.{Allowed}
 use Rattle.evc_def.specs.declared.EvcBlock.{EvcBlock}
-use Rattle.evc_avail.specs.Around.{left_of, first_column, last_column, right_of, above, first_row, below}
-use Rattle.evc_avail.specs.Flags.{is_inter_in, is_not_intra_in, avail_left_in, avail_right_in, avail_up_in}
+use Rattle.evc_avail.specs.Around.{left_of, first_column, last_column, right_of, above}
+use Rattle.evc_avail.specs.Flags.{is_inter_in, is_not_intra_in, avail_up_in}
 use Rattle.evc_avail.proofs.Around.{no_row}
 
 module _ (counts : ℕ → Bool) (b : EvcBlock) (map : List ℕ) where
-  pub no_left : (le : Bool) → le ≡ is_inter_in counts b map (left_of b) (first_row b) → le ≡ false → 0 ≡ avail_left_in counts b map
-  unfolding avail_left_in
-  no_left le p e = rw (sym p, e)
-
-  pub left_flags : (le lo : Bool) (f : ℕ) → le ≡ is_inter_in counts b map (left_of b) (first_row b) → le ≡ true → lo ≡ is_inter_in counts b map (left_of b) (below b) → f ≡ cond lo 128 0 → 2 + f ≡ avail_left_in counts b map
-  unfolding avail_left_in
-  left_flags le lo f p e q r = rw (sym p, e, sym q, r)
-
-  pub no_right : (ri : Bool) → ri ≡ is_inter_in counts b map (right_of b) (first_row b) → ri ≡ false → 0 ≡ avail_right_in counts b map
-  unfolding avail_right_in
-  no_right ri p e = rw (sym p, e)
-
-  pub right_flags : (ri lo : Bool) (f : ℕ) → ri ≡ is_inter_in counts b map (right_of b) (first_row b) → ri ≡ true → lo ≡ is_inter_in counts b map (right_of b) (below b) → f ≡ cond lo 256 0 → 8 + f ≡ avail_right_in counts b map
-  unfolding avail_right_in
-  right_flags ri lo f p e q r = rw (sym p, e, sym q, r)
-
   pub no_up : Allowed b.pic_w b.x b.w → Allowed b.pic_h b.y b.h → b.y ≡ 0 → 0 ≡ avail_up_in counts b map
   unfolding avail_up_in is_inter_in is_not_intra_in
   no_up p q e = rw (no_row b p q (first_column b) e, no_row b p q (last_column b) e, no_row b p q (left_of b) e, no_row b p q (right_of b) e)

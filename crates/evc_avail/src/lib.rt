@@ -1,6 +1,6 @@
 #![tactic(auto)]
 
-ghost use Rattle.std.specs.Prelude.{◌≡◌, ℕ, ◌*◌, ◌<◌, ◌≤◌, Bool, not, ◌&&◌, [], ◌∷◌, length, nat_lt, if◌then◌else◌, IfSome, Some, IfOk};
+ghost use Rattle.std.specs.Prelude.{◌≡◌, ℕ, ◌+◌, ◌*◌, ◌^◌, ◌<◌, ◌≤◌, Bool, not, ◌&&◌, [], ◌∷◌, length, nat_lt, if◌then◌else◌, IfSome, Some, IfOk};
 ghost use Rattle.evc_def.specs.Codes.{◌when◌, first_of};
 ghost use Rattle.evc_def.specs.Refusals.{code_of};
 ghost use Rattle.evc_def.specs.Tables.{is_coded, is_intra};
@@ -8,7 +8,7 @@ ghost use Rattle.evc_map.specs.Maps.{units_of, scup, scuh, w_scu};
 ghost use Rattle.evc_avail.specs.Around.{left_of, first_column, last_column, right_of, above, first_row, below};
 ghost use Rattle.evc_avail.specs.Flags.{is_inter_in, is_not_intra_in, avail_left_in, avail_right_in, avail_up_in, avail_of, of_picture, avail_checks, get_avail_inter, answer_of};
 ghost use Rattle.evc_avail.specs.Slices.{of_slice, max_slice_num, get_avail_inter_slice};
-ghost use Rattle.evc_avail.specs.Inner.{Seen, unit_of, in_first_column, in_last_column};
+ghost use Rattle.evc_avail.specs.Inner.{Seen, unit_of, in_first_column, in_last_column, is_beside_in, is_beside, avail_beside_in};
 
 use evc_def::{
     AVAIL_LE, AVAIL_LO_LE, AVAIL_LO_RI, AVAIL_RI, AVAIL_RI_UP, AVAIL_UP, AVAIL_UP_LE, AVAIL_UP_RI,
@@ -16,7 +16,7 @@ use evc_def::{
 };
 
 #[repr(C)]
-#[derive(Clone, Copy)]
+#[derive(Clone, Copy, Default)]
 pub struct EvcAvail {
     pub code: u32,
     pub avail: u16,
@@ -30,7 +30,7 @@ impl From<Result<u16, Refusal>> for EvcAvail {
             Ok(avail) => EvcAvail { code: 0, avail },
             Err(refusal) => EvcAvail {
                 code: refusal.number(),
-                avail: 0,
+                ..EvcAvail::default()
             },
         }
     }
@@ -75,22 +75,25 @@ struct Slice {
 const MAX_SLICE_NUM: u32 = 127;
 
 impl Slice {
-    fn new(slice_num: u32) -> Result<Slice, Refusal>
-        ensures code { code_of result ≡ first_of (13 when nat_lt max_slice_num slice_num ∷ []) }
-        ensures value { IfOk result (λ slice. slice.slice_num ≡ slice_num) }
-    {
-        if slice_num > MAX_SLICE_NUM {
-            return Err(Refusal::Slice);
-        }
-        Ok(Slice { slice_num })
-    }
-
     // A unit's word with a slice number of 0 if the unit is one of the slice's, and of something else if not. The optimizer
     // then makes one test of slice, coded and intra.
     fn seen(self, mcu: MCU) -> MCU
         ensures { Seen (of_slice self.slice_num) mcu.0 result.0 }
     {
-        MCU(std::num::wrapping_sub_u32(mcu.0, self.slice_num))
+        MCU(mcu.0.wrapping_sub(self.slice_num))
+    }
+}
+
+impl TryFrom<u32> for Slice {
+    type Error = Refusal;
+
+    ghost try_from_gives = { λ slice_num made. (code_of made ≡ first_of (13 when nat_lt max_slice_num slice_num ∷ [])) × IfOk made (λ slice. slice.slice_num ≡ slice_num) };
+
+    fn try_from(slice_num: u32) -> Result<Slice, Refusal> {
+        if slice_num > MAX_SLICE_NUM {
+            return Err(Refusal::Slice);
+        }
+        Ok(Slice { slice_num })
     }
 }
 
@@ -202,6 +205,7 @@ impl<'a, R: Region> Neighbours<'a, R> {
         self.right_of_last(Scu(unit.0 + evc_map::scu(self.block.given.w).0 - 1))
     }
 
+    // Left and right differ in what they call: one function over the side would be a match of these lines.
     #[tactic(auto, using(crate::proofs::Around::first_unit))]
     fn left(&self) -> Option<Scu>
         ensures { let b = self.now.block.given in
@@ -255,28 +259,33 @@ impl<'a, R: Region> Neighbours<'a, R> {
             .is_not_intra(evc_map::mcu_at(self.map_scu, scup))
     }
 
+    // The flags of a unit beside the block's first row and of the one in its column below the block, which is looked up only where
+    // the other's is set.
+    fn avail_beside(&self, unit: Option<Scu>, lower: Option<Scu>, bit: u16, lower_bit: u16) -> u16
+        requires places { is_beside self.now.block.given unit lower }
+        requires bits { bit + lower_bit < 2 ^ 16 }
+        ensures flags { let n = self.now in
+            (column : ℕ) → is_beside_in n.block.given column unit lower → result ≡ avail_beside_in (R.counts n.region) n.block.given n.map_scu.now column bit lower_bit }
+        ensures small { result ≤ bit + lower_bit }
+    {
+        if !self.is_inter(unit) {
+            return 0;
+        }
+        bit + flag(self.is_inter(lower), lower_bit)
+    }
+
     fn avail_left(&self) -> u16
         ensures { let n = self.now in
             (result ≡ avail_left_in (R.counts n.region) n.block.given n.map_scu.now) × (result ≤ 130) }
     {
-        let le = self.is_inter(self.left());
-        if !le {
-            return 0;
-        }
-        let lo_le = self.is_inter(self.lower_left());
-        AVAIL_LE + flag(lo_le, AVAIL_LO_LE)
+        self.avail_beside(self.left(), self.lower_left(), AVAIL_LE, AVAIL_LO_LE)
     }
 
     fn avail_right(&self) -> u16
         ensures { let n = self.now in
             (result ≡ avail_right_in (R.counts n.region) n.block.given n.map_scu.now) × (result ≤ 264) }
     {
-        let ri = self.is_inter(self.right());
-        if !ri {
-            return 0;
-        }
-        let lo_ri = self.is_inter(self.lower_right());
-        AVAIL_RI + flag(lo_ri, AVAIL_LO_RI)
+        self.avail_beside(self.right(), self.lower_right(), AVAIL_RI, AVAIL_LO_RI)
     }
 
     fn avail_up(&self) -> u16
@@ -339,6 +348,6 @@ pub fn get_avail_inter_slice(
     ensures { answer_of result ≡ get_avail_inter_slice block slice_num map_scu.now }
 {
     let b = checked(block, map_scu)?;
-    let slice = Slice::new(slice_num)?;
+    let slice = Slice::try_from(slice_num)?;
     Ok(Neighbours::new(b, map_scu, slice).avail_inter())
 }

@@ -1,5 +1,5 @@
 -- W5's laws. Assumes nothing.
-use mathlib.Core.Bool.{Bool, true, false, cond, ◌&&◌}
+use mathlib.Core.Bool.{Bool, true, false, cond, ◌&&◌, and-false}
 use mathlib.Core.List.{List, [], ◌∷◌, map}
 use mathlib.Core.Logic.{⊎_elim}
 use mathlib.Core.Path.{◌≡◌, refl, sym, ap, ◌∙◌}
@@ -54,13 +54,9 @@ one_slice b slice words l a =
     ap (λ (code : ℕ). answered code (avail_of (of_slice slice) b words)) (old_code b slice (length words) l)
     ∙ same_answer _ _ _ (λ e. same_flags (of_slice slice) of_picture b words words (λ k t. record { inter = rw (a k t); not_intra = rw (a k t) }))
 
-no_unit : (t : Bool) → (t && false) ≡ false
-no_unit true = refl
-no_unit false = refl
-
 none_counts : (b : EvcBlock) (words : List ℕ) → avail_of (λ (word : ℕ). false) b words ≡ 0
 unfolding avail_of avail_left_in avail_right_in avail_up_in is_inter_in is_not_intra_in
-none_counts b words = simp no_unit
+none_counts b words = simp and-false
 
 other_slices : OtherSlices
 unfolding get_avail_inter_slice

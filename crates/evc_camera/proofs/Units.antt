@@ -32,9 +32,9 @@ within_more s r counted mv k w e x y =
     more false = omega arith
 
 module _ (map : List ℤ) (words : List ℕ) where
-  pub no_units : record { units = 0; x = pos 0; y = pos 0 } ≡ sums_of map words 0
+  pub no_units : (s : Sums) → (s.units ≡ 0) × ((s.x ≡ pos 0) × (s.y ≡ pos 0)) → (s ≡ sums_of map words 0) × Within s 0
   unfolding sums_of
-  no_units = refl
+  no_units s e = (rw (e.0, e.1.0, e.1.1), record { few = rw e.0 (omega arith); across = rw e.1.0 (omega arith); down = rw e.1.1 (omega arith) })
 
   -- a unit counts by its word, or since all of them do
   known : (all this t : Bool) → this ≡ t → (all ≡ true → t ≡ true) → (all || this) ≡ t

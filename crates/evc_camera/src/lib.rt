@@ -9,7 +9,7 @@ use evc_def::{EvcMv, Picture, RefList, Refusal, Scu};
 
 // The units that count, and the whole sums of their list 0 vectors, in quarter samples. How large they are stands in contracts
 // (`Within`): a ghost field would put a proof into the definition `sums_of`.
-#[derive(Clone, Copy)]
+#[derive(Clone, Copy, Default)]
 pub struct Sums {
     pub units: u64,
     pub x: i64,
@@ -43,7 +43,8 @@ fn add(sum: i64, v: i16) -> i64
     sum + v as i64
 }
 
-// A component where its unit counts, else 0: a choice of numbers, without a branch.
+// A component where its unit counts, else 0: a choice of numbers, since with a branch any words take twice the time (docs/SPEED.md,
+// 'Camera movement').
 fn component(counted: bool, v: i16) -> i16
     ensures { result ≡ cond counted v (pos 0) }
 {
@@ -61,7 +62,9 @@ fn add_mv(s: Sums, counted: bool, mv: EvcMv) -> Sums
     }
 }
 
-// Units that are first asked together whether all of them count: their vectors are then added without a look at each word.
+// Units that are first asked together whether all of them count: their vectors are then added without a look at each word. The
+// loops go by index: of slices side by side, `chunks` take 2.0 to 3.0 times the time, arrays by `as_chunks` up to 1.12 (docs/SPEED.md,
+// 'Camera movement').
 const RUN: usize = 16;
 
 // The maps of a picture of so many units.
@@ -81,7 +84,8 @@ impl UnitMaps<'_> {
         evc_map::mcu_at(self.map_scu, Scu(i)).IS_COD_NIF()
     }
 
-    // Whether every unit of these counts: no stop at the first that does not, so no branch for each.
+    // Whether every unit of these counts: no stop at the first that does not, so no branch for each. By `Iterator::all` the call
+    // takes 1.5 to 2.0 times the time, by `fold` up to 1.28.
     fn all_count(&self, from: usize, to: usize) -> bool
         requires { (from ≤ to) × (to ≤ self.now.units) }
         ensures { result ≡ true → AllCounted self.now.map_scu.now from to }
@@ -93,7 +97,8 @@ impl UnitMaps<'_> {
         all
     }
 
-    // The sums over the units before `from` become those over the units before `to`; `all` if those between are known to count.
+    // The sums over the units before `from` become those over the units before `to`; `all` if those between are known to count. Two
+    // functions in place of `all` take up to 1.28 times the time.
     fn add_units(&self, s: Sums, from: usize, to: usize, all: bool) -> Sums
         requires from_le_to { (from ≤ to) × (to ≤ self.now.units) }
         requires s_value { (s ≡ sums_of self.now.map_mv.now self.now.map_scu.now from) × Within s from × (all ≡ true → AllCounted self.now.map_scu.now from to) }
@@ -121,11 +126,7 @@ impl UnitMaps<'_> {
         ensures { (result ≡ sums_of self.now.map_mv.now self.now.map_scu.now self.now.units) × Within result most_units }
     {
         let runs = self.units / RUN;
-        let mut s = Sums {
-            units: 0,
-            x: 0,
-            y: 0,
-        };
+        let mut s = Sums::default();
         for k in 0..runs {
             s = self.add_run(s, k * RUN);
         }

@@ -7,7 +7,7 @@ use native.Mathlib.Nat.{zero-mul, mul-pos, lt_irrefl, add_comm}
 use native.Mathlib.Omega.{arith}
 use borrow.Author.Tests.{ne_eqb, eq-eqb}
 use lib.Count.{count_trailing_zeros}
-use lib.Dec.{T, ltb, eqb, ltb→lt, lt→ltb, eqb→eq}
+use lib.Dec.{T, ltb, eqb, ltb→lt, lt→ltb, eqb→eq, eqb-suc-zero}
 use lib.IntN.{ℤ, pos, negsuc, neg_ℤ, nat_abs}
 use lib.Ieee as Ieee
 use lib.Ieee.{Float, nan, inf, fin, Format, binary64, round, units, odd, of_bits, of_fields, size, span, climb, low, prec, emax, up, down}
@@ -86,26 +86,23 @@ same_zero = refl
 pub zero_turned : turned plus_zero ≡ plus_zero
 zero_turned = ap (λ (b : Bool). cond b plus_zero (Ieee.neg plus_zero)) same_zero
 
-not_zero : (m : ℕ) → eqb (suc m) 0 ≡ false
-not_zero m = ne_eqb (suc m) 0 (λ (e : suc m ≡ 0). omega arith)
-
 pub neg_zero : (z : ℤ) → eq_z (neg_ℤ z) (pos 0) ≡ eq_z z (pos 0)
 neg_zero (pos zero) = refl
-neg_zero (pos (suc m)) = sym (not_zero m)
-neg_zero (negsuc m) = not_zero m
+neg_zero (pos (suc m)) = sym (eqb-suc-zero m)
+neg_zero (negsuc m) = eqb-suc-zero m
 
 module _ (n : ℕ) (h : 0 < n) (k : n ≤ most_units) where
   pub mean_is_zero : (z : ℤ) → Ieee.eq (mean_of z n) plus_zero ≡ eq_z z (pos 0)
   unfolding mean_of
   mean_is_zero (pos zero) = ap (λ (v : Float). Ieee.eq v plus_zero) (mean_zero n h) ∙ same_zero
-  mean_is_zero (pos (suc m)) = above_no_zero _ (above_least m n h k) ∙ sym (not_zero m)
+  mean_is_zero (pos (suc m)) = above_no_zero _ (above_least m n h k) ∙ sym (eqb-suc-zero m)
   mean_is_zero (negsuc m) =
       ap (λ (v : Float). Ieee.eq v plus_zero) (round_neg binary64 false (suc m) (4 * n)) ∙ below_no_zero _ (above_least m n h k)
 
   by_sign : (z : ℤ) → mean_of (neg_ℤ z) n ≡ cond (eq_z z (pos 0)) (mean_of z n) (Ieee.neg (mean_of z n))
   unfolding mean_of
   by_sign (pos zero) = refl
-  by_sign (pos (suc m)) = rw (not_zero m) (round_neg binary64 false (suc m) (4 * n))
+  by_sign (pos (suc m)) = rw (eqb-suc-zero m) (round_neg binary64 false (suc m) (4 * n))
   by_sign (negsuc m) = round_neg binary64 true (suc m) (4 * n)
 
   -- the mean of the negated sum

@@ -25,7 +25,7 @@ pub struct DirectVectors {
 }
 
 #[repr(C)]
-#[derive(Clone, Copy)]
+#[derive(Clone, Copy, Default)]
 pub struct EvcDirect {
     pub code: u32,
     pub mv0: EvcMv,
@@ -40,8 +40,7 @@ impl From<Result<DirectVectors, Refusal>> for EvcDirect {
             Ok(DirectVectors { mv0, mv1 }) => EvcDirect { code: 0, mv0, mv1 },
             Err(refusal) => EvcDirect {
                 code: refusal.number(),
-                mv0: EvcMv::default(),
-                mv1: EvcMv::default(),
+                ..EvcDirect::default()
             },
         }
     }

@@ -9,6 +9,7 @@ use native.Mathlib.Omega.{arith}
 use lib.Dec.{ltb, lit<}
 use lib.ListN.{length, get_or}
 use borrow.Author.Tests.{ltb-false, le-ltb, not-false}
+use Rattle.std.proofs.lemmas.Bool.{or_from}
 use Rattle.evc_int.proofs.Lists.{row_fits, length-with_block, with_block-in, with_block-before}
 use Rattle.evc_def.specs.Blocks.{Allowed, max_poc}
 use Rattle.evc_def.specs.Codes.{first_of, block_checks}
@@ -74,15 +75,12 @@ if_used : (u t : Bool) → (u ≡ true → t ≡ false) → u && t ≡ false
 if_used true t h = h refl
 if_used false t h = refl
 
-no_or : (s t : Bool) → s ≡ false → t ≡ false → s || t ≡ false
-no_or s t e f = rw (e, f)
-
 module _ (b : EvcBlock) (across : Allowed b.pic_w b.x b.w) (down : Allowed b.pic_h b.y b.h) (l : RefPicList) (p : Picture) (made : Made b l p) where
   long_list : list_short b l ≡ false
   unfolding list_short
   long_list =
       if_used l.list.used _
-      (λ u. no_or _ _ (no_or _ _ (long u luma) (long u cb)) (long u cr))
+      (λ u. or_from _ _ (or_from _ _ (long u luma) (long u cb)) (long u cr))
     where
       long : l.list.used ≡ true → (c : Component) → ltb (length (plane_of c l)) (plane_len (type_of c) b.pic_w b.pic_h) ≡ false
       long u c = le-ltb _ _ (plane_long b across down l p made u c)
@@ -91,7 +89,7 @@ module _ (b : EvcBlock) (across : Allowed b.pic_w b.x b.w) (down : Allowed b.pic
   unfolding list_exceeds
   small_list =
       if_used l.list.used _
-      (λ u. no_or _ _ (no_or _ _ (window_small b across down l p made u luma) (window_small b across down l p made u cb)) (window_small b across down l p made u cr))
+      (λ u. or_from _ _ (or_from _ _ (window_small b across down l p made u luma) (window_small b across down l p made u cb)) (window_small b across down l p made u cr))
 
 module _ (b : EvcBlock) (l m : RefPicList) (pred0 pred1 : List ℕ) where
   pub accepts_call : (p q : Picture) → Made b l p → Made b m q → Asked b l m pred0 pred1 → mc2_code b l m pred0 pred1 ≡ 0
@@ -101,10 +99,10 @@ module _ (b : EvcBlock) (l m : RefPicList) (pred0 pred1 : List ℕ) where
       goes_on 0 (block_checks b) _ tt a.block
       ∙ passed 3 _ _ (ap not a.some)
       ∙ passed 4 _ _
-      (no_or _ _ (no_or _ _ (no_or _ _ (long_list b o.0 o.1 l p made0) (long_list b o.0 o.1 m q made1)) (le-ltb _ _ a.long0)) (le-ltb _ _ a.long1))
+      (or_from _ _ (or_from _ _ (or_from _ _ (long_list b o.0 o.1 l p made0) (long_list b o.0 o.1 m q made1)) (le-ltb _ _ a.long0)) (le-ltb _ _ a.long1))
       ∙ passed 5 _ _
-      (no_or _ _ (if_used l.list.used _ (λ u. le-ltb _ _ (a.count0 u))) (if_used m.list.used _ (λ u. le-ltb _ _ (a.count1 u))))
-      ∙ passed 6 _ _ (no_or _ _ (small_list b o.0 o.1 l p made0) (small_list b o.0 o.1 m q made1))
+      (or_from _ _ (if_used l.list.used _ (λ u. le-ltb _ _ (a.count0 u))) (if_used m.list.used _ (λ u. le-ltb _ _ (a.count1 u))))
+      ∙ passed 6 _ _ (or_from _ _ (small_list b o.0 o.1 l p made0) (small_list b o.0 o.1 m q made1))
       ∙ none
 
   pub accepted_call : mc2_code b l m pred0 pred1 ≡ 0 → Asked b l m pred0 pred1

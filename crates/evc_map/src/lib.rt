@@ -59,7 +59,8 @@ pub fn words_short(pic: Sides, words: usize) -> bool
 // Numbers of a unit in a motion map: list 0 x, y, list 1 x, y.
 const MAP_MV_LEN: usize = 4;
 
-// The one place where a motion map is read.
+// The one place where a motion map is read. A type for a map with its length as a ghost field would let no `requires` go: a read
+// would still ask that the map has the unit, and the candidates that both maps are of the block's picture.
 pub fn mv_at(map_mv: &[i16], scup: Scu, list: RefList) -> EvcMv
     requires { mv_len * scup.0 + mv_len ≤ length map_mv.now }
     ensures { result ≡ mv_at map_mv.now scup.0 (lidx_of list) }

@@ -1,17 +1,20 @@
 -- What the checks leave for the candidates: the maps reach to the block's unit, and a flagged neighbour lies before it. Assumes nothing.
 use mathlib.Core.Bool.{Bool, true, false, ◌&&◌, ◌||◌}
 use mathlib.Core.List.{List}
-use mathlib.Core.Path.{◌≡◌, refl}
-use Prim.Native.Nat.{ℕ, zero, suc, ◌+◌, ◌*◌, ◌/◌, ◌%◌, ◌≤◌, ◌<◌}
+use mathlib.Core.Path.{◌≡◌, refl, sym, subst}
+use Prim.Native.Nat.{ℕ, zero, suc, ◌+◌, ◌-◌, ◌*◌, ◌/◌, ◌%◌, ◌≤◌, ◌<◌}
 use native.Mathlib.Nat.{mul-le-mul_right}
 use native.Mathlib.Omega.{arith}
 use borrow.Author.Tests.{ltb-false, eqb-false}
 use lib.Dec.{eqb}
 use lib.IntN.{ℤ}
+use Rattle.std.proofs.Common.{Option, IfSome}
+use Rattle.std.specs.Bool.{then_some}
 use Rattle.evc_int.proofs.Bools.{none_true, and_false_right}
 use Rattle.evc_def.specs.Blocks.{Allowed}
 use Rattle.evc_def.specs.Tables.{is_bit}
 use Rattle.evc_def.specs.declared.EvcBlock.{EvcBlock}
+use Rattle.evc_def.specs.declared.Scu.{Scu}
 use Rattle.evc_map.specs.Maps.{units_of, mv_len, map_short, w_scu, scup}
 use Rattle.evc_motion.specs.Candidates.{flag_outside, maps_short, neighbour}
 
@@ -21,6 +24,13 @@ module _ (b : EvcBlock) (map : ℕ) (has : Bool) (col : ℕ) (e : maps_short b m
   map_reaches n below =
       let f = (none_true (map_short b.pic_w b.pic_h map) (has && map_short b.pic_w b.pic_h col) e).0 in
       let l = ltb-false map _ f in
+      omega arith
+
+  pub col_reaches : (n : ℕ) → n < units_of b.pic_w b.pic_h → has ≡ true → mv_len * n + mv_len ≤ col
+  unfolding maps_short
+  col_reaches n below t =
+      let f = (none_true (map_short b.pic_w b.pic_h map) (has && map_short b.pic_w b.pic_h col) e).1 in
+      let l = ltb-false col _ (and_false_right has (map_short b.pic_w b.pic_h col) f t) in
       omega arith
 
   pub no_col_short : (has && map_short b.pic_w b.pic_h col) ≡ false
@@ -64,3 +74,9 @@ module _ (b : EvcBlock) (avail : ℕ) (p : Allowed b.pic_w b.x b.w) (q : Allowed
 pub same_neighbour : (map : List ℤ) (lidx : ℕ) (flagged : Bool) (m n : ℕ) → (flagged ≡ true → m ≡ n) → neighbour map lidx flagged m ≡ neighbour map lidx flagged n
 same_neighbour map lidx true m n h = rw (h refl)
 same_neighbour map lidx false m n h = refl
+
+-- a unit before one that the map reaches
+pub in_map : (map first back : ℕ) (flagged : Bool) (unit : Option Scu) → mv_len * first + mv_len ≤ map → unit ≡ then_some flagged (record { 0 = first - back })
+    → IfSome unit (λ (scup : Scu). mv_len * scup.0 + mv_len ≤ map)
+in_map map first back true unit l e = subst (λ (u : Option Scu). IfSome u (λ (scup : Scu). mv_len * scup.0 + mv_len ≤ map)) (sym e) (omega arith)
+in_map map first back false unit l e = subst (λ (u : Option Scu). IfSome u (λ (scup : Scu). mv_len * scup.0 + mv_len ≤ map)) (sym e) tt

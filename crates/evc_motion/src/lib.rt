@@ -1,6 +1,7 @@
 #![tactic(auto)]
 
-ghost use Rattle.std.specs.Prelude.{◌≡◌, true, false, ◌+◌, ◌-◌, ◌*◌, ◌≤◌, length};
+ghost use Rattle.std.specs.Prelude.{◌≡◌, ℕ, Bool, true, false, ◌+◌, ◌-◌, ◌*◌, ◌≤◌, length, IfSome};
+ghost use Rattle.std.specs.Bool.{then_some};
 ghost use Rattle.evc_def.specs.Lists.{lidx_of};
 ghost use Rattle.evc_map.specs.Maps.{mv_len, is_present, numbers_of};
 ghost use Rattle.evc_motion.specs.Candidates.{neighbour, flag_outside, maps_short, candidates, get_motion, motion_of};
@@ -12,7 +13,7 @@ use evc_def::{
 
 // The record of the four candidates and their reference numbers.
 #[repr(C)]
-#[derive(Clone, Copy)]
+#[derive(Clone, Copy, Default)]
 pub struct EvcCandidates {
     pub left: EvcMv,
     pub up: EvcMv,
@@ -21,16 +22,24 @@ pub struct EvcCandidates {
     pub refi: [i8; 4],
 }
 
-// The vector of the unit `back` before the block's first one, where its flag is set. No Option of the unit: a subtraction that
-// is allowed only where the flag is set would go into a closure with clauses of its own.
-fn neighbour_mv(map_mv: &[i16], list: RefList, flagged: bool, scup: Scu, back: Scu) -> EvcMv
-    requires { (mv_len * scup.0 + mv_len ≤ length map_mv.now) × (flagged ≡ true → back.0 ≤ scup.0) }
-    ensures { result ≡ neighbour map_mv.now (lidx_of list) flagged (scup.0 - back.0) }
+// The unit `back` before the block's first one, where its flag is set.
+fn unit_before(flagged: bool, scup: Scu, back: Scu) -> Option<Scu>
+    requires { flagged ≡ true → back.0 ≤ scup.0 }
+    ensures { result ≡ then_some flagged (record { 0 = scup.0 - back.0 }) }
 {
-    if flagged {
-        evc_map::mv_at(map_mv, Scu(scup.0 - back.0), list)
-    } else {
-        EvcMv { x: 1, y: 1 }
+    if !flagged {
+        return None;
+    }
+    Some(Scu(scup.0 - back.0))
+}
+
+fn neighbour_mv(map_mv: &[i16], list: RefList, unit: Option<Scu>) -> EvcMv
+    requires { IfSome unit (λ scup. mv_len * scup.0 + mv_len ≤ length map_mv.now) }
+    ensures { (flagged : Bool) (scup : ℕ) → unit ≡ then_some flagged (record { 0 = scup }) → result ≡ neighbour map_mv.now (lidx_of list) flagged scup }
+{
+    match unit {
+        Some(scup) => evc_map::mv_at(map_mv, scup, list),
+        None => EvcMv { x: 1, y: 1 },
     }
 }
 
@@ -73,9 +82,13 @@ fn candidates(
     let up = GET_AVAIL_FLAG(avail, AVAIL_BIT_UP);
     let up_ri = GET_AVAIL_FLAG(avail, AVAIL_BIT_UP_RI);
     EvcCandidates {
-        left: neighbour_mv(map_mv, list, le, scup, Scu(1)),
-        up: neighbour_mv(map_mv, list, up, scup, w_scu),
-        up_right: neighbour_mv(map_mv, list, up_ri, scup, Scu(w_scu.0 - scuw.0)),
+        left: neighbour_mv(map_mv, list, unit_before(le, scup, Scu(1))),
+        up: neighbour_mv(map_mv, list, unit_before(up, scup, w_scu)),
+        up_right: neighbour_mv(
+            map_mv,
+            list,
+            unit_before(up_ri, scup, Scu(w_scu.0 - scuw.0)),
+        ),
         collocated: evc_map::col_mv_at(b, col_mv, RefList::List0, old.collocated),
         refi: [0; 4],
     }

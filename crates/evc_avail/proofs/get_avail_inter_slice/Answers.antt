@@ -21,14 +21,14 @@ unfolding get_avail_inter_slice
 returns-in_err-slice c =
     let a = c.args in
     let p = err_from_is_err_and c.from_residual-in_err-slice.result c.from_residual-in_err-slice.ensures.1 in
-    rw (p.1, p.2) (refusal _ _ _ (c.in_err-slice.ensures.code ∙ sym (goes_on 0 (avail_checks a.block (length a.map_scu.now)) _ tt (sym c.in_ok-b.ensures.code))))
+    rw (p.1, p.2) (refusal _ _ _ (c.in_err-slice.ensures.0 ∙ sym (goes_on 0 (avail_checks a.block (length a.map_scu.now)) _ tt (sym c.in_ok-b.ensures.code))))
 
-pub new-requires-2 : goal.new-requires-2
-new-requires-2 c = simp (c.in_ok-b.ensures.value) (covers _ _ (sym c.in_ok-b.ensures.code)).0
+pub new-requires : goal.new-requires
+new-requires c = simp (c.in_ok-b.ensures.value) (covers _ _ (sym c.in_ok-b.ensures.code)).0
 
 pub returns : goal.returns
 unfolding get_avail_inter_slice
 returns c =
     let a = c.args in
-    done _ _ _ (goes_on 0 (avail_checks a.block (length a.map_scu.now)) _ tt (sym c.in_ok-b.ensures.code) ∙ sym c.in_ok-slice.ensures.code)
-    (simp (c.in_ok-b.ensures.value, c.in_ok-slice.ensures.value, c.new-2.ensures.0, c.new-2.ensures.1, c.new-2.ensures.2) at c.avail_inter.ensures)
+    done _ _ _ (goes_on 0 (avail_checks a.block (length a.map_scu.now)) _ tt (sym c.in_ok-b.ensures.code) ∙ sym c.in_ok-slice.ensures.0)
+    (simp (c.in_ok-b.ensures.value, c.in_ok-slice.ensures.1, c.new.ensures.0, c.new.ensures.1, c.new.ensures.2) at c.avail_inter.ensures)

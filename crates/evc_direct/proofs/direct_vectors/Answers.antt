@@ -4,7 +4,7 @@ use native.Mathlib.Omega.{arith}
 use borrow.Author.Tests.{eq-eqb, ne_eqb}
 use lib.IntN.{ℤ, pos, ◌-ℤ◌}
 use Rattle.evc_int.specs.LowBits.{low16}
-use Rattle.evc_int.proofs.Expressions.{!, ◌⊖◌, neg, solve}
+use Rattle.evc_int.proofs.Expressions.{ !, ◌⊖◌, neg, solve}
 use Rattle.evc_def.specs.declared.EvcMv.{EvcMv}
 use Rattle.evc_direct.specs.Direct.{dpoc_co, dpoc0, dpoc1, exact_quotient, exact_quotients, low_mv, direct_vectors}
 use Rattle.evc_direct.specs.declared.Pocs.{Pocs}

@@ -15,7 +15,7 @@ use Rattle.evc_map.specs.Maps.{mv_len, mv_at, w_scu, scup, scuw}
 use Rattle.evc_map.proofs.Units.{scup_below}
 use Rattle.evc_motion.specs.Candidates.{neighbour, maps_short, candidates}
 use Rattle.evc_motion.specs.declared.EvcCandidates.{EvcCandidates}
-use Rattle.evc_motion.proofs.Reach.{map_reaches, no_col_short, left_before, up_before, up_right_before, same_neighbour}
+use Rattle.evc_motion.proofs.Reach.{map_reaches, no_col_short, left_before, up_before, up_right_before, same_neighbour, in_map}
 use Rattle.evc_motion.proofs.candidates.Goals as goal
 
 module _ (b : EvcBlock) (lidx avail : ℕ) (map : List ℤ) where
@@ -37,23 +37,30 @@ module _ (b : EvcBlock) (lidx avail : ℕ) (map : List ℤ) where
 reaches : (b : Block) (map : ℕ) (has : Bool) (col : ℕ) (first : ℕ) → maps_short b.given map has col ≡ false → first ≡ scup b.given → mv_len * first + mv_len ≤ map
 reaches b map has col first e f = map_reaches b.given map has col e _ (rw f (scup_below b.given b.across b.down))
 
-pub neighbour_mv-requires : goal.neighbour_mv-requires
-neighbour_mv-requires c =
+pub unit_before-requires : goal.unit_before-requires
+unit_before-requires c =
     let b = c.args.b in
-    (reaches b _ _ _ _ c.requires.long_enough c.first_unit-scup.ensures, λ t. rw c.first_unit-scup.ensures (left_before _ _ b.across b.down c.requires.inside (sym c.GET_AVAIL_FLAG-le.ensures ∙ t)))
+    λ t. rw c.first_unit-scup.ensures (left_before _ _ b.across b.down c.requires.inside (sym c.GET_AVAIL_FLAG-le.ensures ∙ t))
+
+pub unit_before-requires-2 : goal.unit_before-requires-2
+unit_before-requires-2 c =
+    let b = c.args.b in
+    λ t. rw (c.first_unit-scup.ensures, c.scu-w_scu.ensures) (up_before _ _ b.across b.down c.requires.inside (sym c.GET_AVAIL_FLAG-up.ensures ∙ t))
+
+pub unit_before-requires-3 : goal.unit_before-requires-3
+unit_before-requires-3 c =
+    let b = c.args.b in
+    λ t. let l = up_right_before _ _ b.across b.down c.requires.inside (sym c.GET_AVAIL_FLAG-up_ri.ensures ∙ t) in
+    omega (arith, c.first_unit-scup.ensures, c.scu-w_scu.ensures)
+
+pub neighbour_mv-requires : goal.neighbour_mv-requires
+neighbour_mv-requires c = in_map _ _ _ _ _ (reaches c.args.b _ _ _ _ c.requires.long_enough c.first_unit-scup.ensures) c.unit_before.ensures
 
 pub neighbour_mv-requires-2 : goal.neighbour_mv-requires-2
-neighbour_mv-requires-2 c =
-    let b = c.args.b in
-    (reaches b _ _ _ _ c.requires.long_enough c.first_unit-scup.ensures, λ t. rw (c.first_unit-scup.ensures, c.scu-w_scu.ensures) (up_before _ _ b.across b.down c.requires.inside (sym c.GET_AVAIL_FLAG-up.ensures ∙ t)))
+neighbour_mv-requires-2 c = in_map _ _ _ _ _ (reaches c.args.b _ _ _ _ c.requires.long_enough c.first_unit-scup.ensures) c.unit_before-2.ensures
 
 pub neighbour_mv-requires-3 : goal.neighbour_mv-requires-3
-neighbour_mv-requires-3 c =
-    let b = c.args.b in (
-      reaches b _ _ _ _ c.requires.long_enough c.first_unit-scup.ensures,
-      λ t. let l = up_right_before _ _ b.across b.down c.requires.inside (sym c.GET_AVAIL_FLAG-up_ri.ensures ∙ t) in
-          omega (arith, c.first_unit-scup.ensures, c.scu-w_scu.ensures),
-    )
+neighbour_mv-requires-3 c = in_map _ _ _ _ _ (reaches c.args.b _ _ _ _ c.requires.long_enough c.first_unit-scup.ensures) c.unit_before-3.ensures
 
 pub col_mv_at-requires : goal.col_mv_at-requires
 col_mv_at-requires c = no_col_short c.args.b.given _ _ _ c.requires.long_enough
@@ -66,7 +73,7 @@ returns c =
     let map = a.map_mv.now in
     let e = c.first_unit-scup.ensures in
     made b l a.avail map _ _ a.old _ _ _ _
-    (left_is b l a.avail map _ _ _ c.GET_AVAIL_FLAG-le.ensures e c.neighbour_mv.ensures)
-    (up_is b l a.avail map _ _ _ _ c.GET_AVAIL_FLAG-up.ensures e c.scu-w_scu.ensures c.neighbour_mv-2.ensures)
-    (up_right_is b l a.avail map a.b.across (up_right_before _ _ a.b.across a.b.down c.requires.inside) _ _ _ _ _ c.GET_AVAIL_FLAG-up_ri.ensures e c.scu-w_scu.ensures c.scu-scuw.ensures c.neighbour_mv-3.ensures)
+    (left_is b l a.avail map _ _ _ c.GET_AVAIL_FLAG-le.ensures e (c.neighbour_mv.ensures _ _ c.unit_before.ensures))
+    (up_is b l a.avail map _ _ _ _ c.GET_AVAIL_FLAG-up.ensures e c.scu-w_scu.ensures (c.neighbour_mv-2.ensures _ _ c.unit_before-2.ensures))
+    (up_right_is b l a.avail map a.b.across (up_right_before _ _ a.b.across a.b.down c.requires.inside) _ _ _ _ _ c.GET_AVAIL_FLAG-up_ri.ensures e c.scu-w_scu.ensures c.scu-scuw.ensures (c.neighbour_mv-3.ensures _ _ c.unit_before-3.ensures))
     c.col_mv_at.ensures
