@@ -85,8 +85,8 @@ fn replay_records(
             Ok(moved) => moved,
             Err(refusal) => return answer(Err(refusal), index, counts),
         };
-        let moved0 = moved.moved0;
-        let moved1 = moved.moved1;
+        let moved0 = EvcMoved::from(moved.moved0);
+        let moved1 = EvcMoved::from(moved.moved1);
         counts = counts.with_lists(moved0, moved1);
         at += RECORD_LEN;
         index += 1;

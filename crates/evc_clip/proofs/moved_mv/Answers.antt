@@ -8,7 +8,6 @@ use mir.Val.{SFits}
 use Rattle.evc_def.specs.declared.EvcBlock.{EvcBlock}
 use Rattle.evc_def.specs.declared.EvcMv.{EvcMv}
 use Rattle.evc_clip.specs.Clip.{moved_component, moved_mv}
-use Rattle.evc_clip.proofs.Numbers.{by_number}
 use Rattle.evc_clip.proofs.moved_mv.Goals as goal
 use Rattle.evc_clip.proofs.moved_mv.Lts as place
 use Rattle.evc_clip.proofs.moved_mv.Reads.{Pre, Post}
@@ -24,4 +23,4 @@ made b mv x y p q = rw (p, q)
 
 pub returns : goal.returns
 returns c =
-    made _ _ _ _ (by_number _ ∙ simp (to_z-of_z (fits c.before.before.before.before.before.before).0, c.across.ensures.0, c.across.ensures.1, c.across.ensures.2) at c.moved_component.ensures) (by_number _ ∙ simp (to_z-of_z (fits c.before.before.before.before.before.before).1, c.down.ensures.0, c.down.ensures.1, c.down.ensures.2) at c.moved_component-2.ensures)
+    made _ _ _ _ (simp (to_z-of_z (fits c.before.before.before.before.before.before).0, c.across.ensures.0, c.across.ensures.1, c.across.ensures.2) at c.moved_component.ensures) (simp (to_z-of_z (fits c.before.before.before.before.before.before).1, c.down.ensures.0, c.down.ensures.1, c.down.ensures.2) at c.moved_component-2.ensures)

@@ -9,8 +9,8 @@ use Rattle.evc_def.specs.declared.EvcBlock.{EvcBlock}
 use Rattle.evc_def.specs.declared.EvcMv.{EvcMv}
 use Rattle.evc_def.specs.declared.refusal.Refusal.{Refusal}
 use Rattle.evc_def.proofs.Refusals.{not_0}
-use Rattle.evc_clip.specs.Clip.{clip_mv, moved_mv, mv_clip, answer_of}
-use Rattle.evc_clip.specs.declared.EvcMoved.{EvcMoved}
+use Rattle.evc_clip.specs.Clip.{numbers_of, clip_mv, moved_mv, mv_clip, answer_of}
+use Rattle.evc_clip.specs.declared.MovedMv.{MovedMv}
 use Rattle.evc_clip.proofs.mv_clip.Goals as goal
 
 module _ (b : EvcBlock) (mv : EvcMv) where
@@ -18,7 +18,7 @@ module _ (b : EvcBlock) (mv : EvcMv) where
   unfolding mv_clip
   refusal r e = rw (sym e, ne_eqb (number_of r) 0 (not_0 r))
 
-  done : (b' : EvcBlock) (r : EvcMv) (m : EvcMoved) → b' ≡ b → 0 ≡ first_of (block_checks b) → r ≡ clip_mv b' mv → m ≡ moved_mv b' mv → record { code = 0; mv = r; moved = m } ≡ mv_clip b mv
+  done : (b' : EvcBlock) (r : EvcMv) (m : MovedMv) → b' ≡ b → 0 ≡ first_of (block_checks b) → r ≡ clip_mv b' mv → numbers_of m ≡ moved_mv b' mv → record { code = 0; mv = r; moved = numbers_of m } ≡ mv_clip b mv
   unfolding mv_clip
   done b' r m s e p q = rw (sym e, p, q, s)
 

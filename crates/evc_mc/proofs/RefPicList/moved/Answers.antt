@@ -17,9 +17,6 @@ module _ (b : EvcBlock) (l : EvcList) (r : EvcMoved) where
   unfolding list_moved
   used u e = rw u e
 
-zeros : (m : EvcMoved) → (m.x ≡ 0) × (m.y ≡ 0) → m ≡ nothing_moved
-zeros m e = rw (e.0, e.1)
-
 pub returns-then-not-self : goal.returns-then-not-self
 returns-then-not-self c = not_used c.args.b.given c.args.self.now.list c.default.result c.if-not-self.true (zeros _ c.default.ensures)
 
