@@ -8,6 +8,7 @@ ghost use Rattle.evc_record.specs.Record.{planes, planes_of, picture_short, sour
 ghost use Rattle.evc_replay.specs.Replay.{answer_in, header_code, records_from, applied, replayed};
 ghost use Rattle.evc_replay.specs.Counts.{finished, counted_over, replayed_counts, counts_in};
 
+use evc_clip::EvcMoved;
 use evc_counts::MovedCounts;
 use evc_def::{Picture, Refusal};
 use evc_mc::{PRED_LEN, Planes};
