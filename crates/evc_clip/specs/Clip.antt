@@ -14,6 +14,7 @@ use Rattle.evc_clip.specs.declared.EvcClipped.{EvcClipped}
 use Rattle.evc_clip.specs.declared.EvcMoved.{EvcMoved}
 use Rattle.evc_clip.specs.declared.Moved.{Moved}
 use Rattle.evc_clip.specs.declared.Moved.TheVariants.{No, Low, High}
+use Rattle.evc_clip.specs.declared.MovedMv.{MovedMv}
 
 -- how many samples past the picture's last one a block's last one may lie, MAX_CU_SIZE of the Rust: "4(W - 1 + 64)"
 abbrev pub margin : ℕ
@@ -34,6 +35,9 @@ abbrev pub number_of : Moved → ℕ
 number_of No = not_moved
 number_of Low = moved_low
 number_of High = moved_high
+
+abbrev pub numbers_of : MovedMv → EvcMoved
+numbers_of m = record { x = number_of m.x; y = number_of m.y }
 
 -- the side that faces it, and 0 for 0
 abbrev pub other_side : ℕ → ℕ
@@ -100,7 +104,7 @@ mv_clip b mv =
 
 -- an answer as the call returns it
 abbrev pub answer_of : Result Clipped Refusal → EvcClipped
-answer_of (Ok c) = record { code = 0; mv = c.mv; moved = c.moved }
+answer_of (Ok c) = record { code = 0; mv = c.mv; moved = numbers_of c.moved }
 answer_of (Err r) = record { code = refusal.number_of r; mv = zero_mv; moved = nothing_moved }
 
 -- 'Edges to try': the lines on clipping, with their reports

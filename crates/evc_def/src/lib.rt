@@ -240,6 +240,20 @@ pub struct EvcMv {
     pub y: i16,
 }
 
+// A place as a call passes it.
+impl From<EvcMv> for QpelPlace {
+    ghost use Rattle.evc_def.specs.Places.{given_place};
+
+    ghost from_gives = { λ gmv place. place ≡ given_place gmv };
+
+    fn from(gmv: EvcMv) -> QpelPlace {
+        QpelPlace {
+            x: Qpel::from(gmv.x),
+            y: Qpel::from(gmv.y),
+        }
+    }
+}
+
 // One of the two lists of reference pictures.
 #[derive(Clone, Copy, PartialEq, Eq)]
 pub enum RefList {
@@ -286,7 +300,8 @@ fn is_picture_side(n: u32) -> bool
     (4 <= n) & (n <= MAX_PIC_SIZE) & (n % 4 == 0)
 }
 
-// 4, 8, 16, 32 and 64 are the numbers from 4 to 64 with no more than one bit set.
+// 4, 8, 16, 32 and 64 are the numbers from 4 to 64 with no more than one bit set. `is_power_of_two` asks for one bit: luma 4x4 across
+// then takes 1.07 of the time.
 pub fn is_block_side(n: u32) -> bool
     ensures { result ≡ is_block_side n }
 {

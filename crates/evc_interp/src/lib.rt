@@ -239,10 +239,7 @@ pub fn evc_mc_plane(
     ensures pred_after { pred.new ≡ mc_plane_after t pic_w pic_h ori_mv (given_place gmv) w h plane.now pred.old }
 {
     let pic = Picture::new(pic_w, pic_h)?;
-    let place = QpelPlace {
-        x: Qpel::from(gmv.x),
-        y: Qpel::from(gmv.y),
-    };
+    let place = QpelPlace::from(gmv);
     match t {
         PlaneType::Y => mc_plane(PlaneType::Y, pic, ori_mv, place, w, h, plane, pred),
         PlaneType::UV => mc_plane(PlaneType::UV, pic, ori_mv, place, w, h, plane, pred),

@@ -11,7 +11,7 @@ use Rattle.evc_def.specs.Refusals.{number_of}
 use Rattle.evc_plane.specs.Planes.{side_of, plane_len}
 use Rattle.evc_plane.specs.declared.PlaneType.{PlaneType}
 use Rattle.evc_plane.specs.declared.PlaneType.TheVariants.{Y, UV}
-use Rattle.evc_clip.specs.Clip.{clip_mv, moved_mv, nothing_moved, clipped_place}
+use Rattle.evc_clip.specs.Clip.{numbers_of, clip_mv, moved_mv, nothing_moved, clipped_place}
 use Rattle.evc_clip.specs.declared.EvcMoved.{EvcMoved}
 use Rattle.evc_interp.specs.Prediction.{predicted, window_exceeds}
 use Rattle.evc_mc.specs.declared.EvcList.{EvcList}
@@ -141,7 +141,7 @@ mc2_answer b l m pred0 pred1 = answered (mc2_code b l m pred0 pred1) b l.list m.
 
 -- an answer as the call returns it
 abbrev pub answer_of : Result ListsMoved Refusal → EvcPredicted
-answer_of (Ok m) = record { code = 0; moved0 = m.moved0; moved1 = m.moved1 }
+answer_of (Ok m) = record { code = 0; moved0 = numbers_of m.moved0; moved1 = numbers_of m.moved1 }
 answer_of (Err r) = record { code = number_of r; moved0 = nothing_moved; moved1 = nothing_moved }
 
 -- the first block after the call

@@ -4,7 +4,7 @@ ghost use Rattle.std.specs.Prelude.{◌≡◌, false, cond, ◌&&◌, eqb, ℕ, 
 ghost use Rattle.evc_int.specs.Lists.{with_row};
 ghost use Rattle.evc_def.specs.Places.{is_same};
 ghost use Rattle.evc_def.specs.Refusals.{code_of};
-ghost use Rattle.evc_clip.specs.Clip.{clipped_place};
+ghost use Rattle.evc_clip.specs.Clip.{numbers_of, clipped_place};
 ghost use Rattle.evc_pick.specs.Inner.{by_block};
 ghost use Rattle.evc_pick.specs.declared.PredBlock.TheVariants.{First, Second};
 ghost use Rattle.evc_mc.specs.Block.{Component, with_samples, list_sample, first_sample, is_bi, average, pred_len};
@@ -12,7 +12,7 @@ ghost use Rattle.evc_mc.specs.Block.{planes_short, list_short, poc_exceeds, list
 ghost use Rattle.evc_mc.specs.Lent.{list_of};
 ghost use Rattle.evc_mc.specs.Inner.{ListExamined, Accepted, with_list, block_sample, RowSmall, BlockSmall};
 
-use evc_clip::EvcMoved;
+use evc_clip::{EvcMoved, MovedMv};
 use evc_def::{Block, EvcBlock, EvcMv, MAX_POC, Picture, QpelPlace, Refusal};
 use evc_interp::Window;
 use evc_pick::PredBlock;
@@ -39,12 +39,12 @@ impl EvcList {
 // What clipping did to each list's vector.
 #[derive(Clone, Copy)]
 pub struct ListsMoved {
-    pub moved0: EvcMoved,
-    pub moved1: EvcMoved,
+    pub moved0: MovedMv,
+    pub moved1: MovedMv,
 }
 
 #[repr(C)]
-#[derive(Clone, Copy)]
+#[derive(Clone, Copy, Default)]
 pub struct EvcPredicted {
     pub code: u32,
     pub moved0: EvcMoved,
@@ -58,13 +58,12 @@ impl From<Result<ListsMoved, Refusal>> for EvcPredicted {
         match moved {
             Ok(ListsMoved { moved0, moved1 }) => EvcPredicted {
                 code: 0,
-                moved0,
-                moved1,
+                moved0: EvcMoved::from(moved0),
+                moved1: EvcMoved::from(moved1),
             },
             Err(refusal) => EvcPredicted {
                 code: refusal.number(),
-                moved0: EvcMoved::default(),
-                moved1: EvcMoved::default(),
+                ..EvcPredicted::default()
             },
         }
     }
@@ -188,11 +187,11 @@ impl RefPicList<'_> {
 
     // A list that is not in use has no report.
     #[tactic(auto, unfolding(crate::specs::Block::list_moved))]
-    fn moved(&self, b: Block) -> EvcMoved
-        ensures { result ≡ list_moved b.given self.now.list }
+    fn moved(&self, b: Block) -> MovedMv
+        ensures { numbers_of result ≡ list_moved b.given self.now.list }
     {
         if !self.list.used {
-            return EvcMoved::default();
+            return MovedMv::default();
         }
         evc_clip::moved_mv(b.placed(), self.list.mv)
     }

@@ -9,7 +9,13 @@ use Rattle.evc_def.proofs.Blocks.{PictureSide, picture_sides}
 use Rattle.evc_plane.specs.declared.PlaneType.{PlaneType}
 use Rattle.evc_plane.specs.declared.PlaneType.TheVariants.{Y, UV}
 use Rattle.evc_plane.specs.declared.PlaneConfig.{PlaneConfig}
-use Rattle.evc_plane.specs.Planes.{origin_of, stride_of, rows_of, plane_len, config_of}
+use Rattle.std.specs.Int.{next_multiple_of}
+use Rattle.evc_plane.specs.Planes.{align16, origin_of, stride_of, rows_of, plane_len, config_of}
+
+-- ---- "rounded up to a multiple of 16", as the library does it
+
+pub next_16 : (n : ℕ) → next_multiple_of n 16 ≡ align16 n
+next_16 n = omega arith
 
 -- ---- the planes of an accepted picture
 

@@ -23,10 +23,6 @@ pub struct PlaneConfig {
     pub yorigin: usize,
 }
 
-const XORIGIN_L: usize = (PIC_PAD_SIZE_L + 15) / 16 * 16;
-
-const XORIGIN_C: usize = (PIC_PAD_SIZE_C + 15) / 16 * 16;
-
 impl PlaneType {
     fn pad_size(self) -> usize
         ensures { result ≡ pad_of self }
@@ -40,10 +36,7 @@ impl PlaneType {
     fn xorigin(self) -> usize
         ensures { result ≡ origin_of self }
     {
-        match self {
-            PlaneType::Y => XORIGIN_L,
-            PlaneType::UV => XORIGIN_C,
-        }
+        self.pad_size().next_multiple_of(16)
     }
 
     // A plane's side, from the picture's.
@@ -65,7 +58,7 @@ pub fn plane_config(t: PlaneType, pic: Picture) -> PlaneConfig
     let width = t.side(pic.w);
     let height = t.side(pic.h);
     PlaneConfig {
-        stride: (xorigin + width + pad + 15) / 16 * 16,
+        stride: (xorigin + width + pad).next_multiple_of(16),
         alloc_height: pad + height + pad,
         width,
         height,
@@ -89,13 +82,8 @@ fn clamp(start: Pel, origin: usize, size: usize) -> usize
     requires { (origin ≤ 8128) × (size ≤ 8128) }
     ensures { result ≡ start_at origin size start.0 }
 {
-    if start.0 < -(origin as i32) {
-        return 0;
-    }
-    if start.0 > size as i32 {
-        return origin + size;
-    }
-    (start.0 + origin as i32) as usize
+    let origin = origin as i32;
+    (start.0.clamp(-origin, size as i32) + origin) as usize
 }
 
 // The index of a window's first sample, from its place in the picture.

@@ -8,6 +8,7 @@ ghost use Rattle.evc_record.specs.Record.{planes_of, target_of, SamePlanes, pict
 ghost use Rattle.evc_replay.specs.Replay.{answer_in, header_code, records_from, applied, replayed};
 ghost use Rattle.evc_replay.specs.Counts.{finished, counted_over, replayed_counts, counts_in};
 
+use evc_clip::EvcMoved;
 use evc_counts::MovedCounts;
 use evc_def::{Picture, Refusal};
 use evc_mc::PRED_LEN;
@@ -58,8 +59,8 @@ fn replay_records(from: &Source, trace: &[u8], target: &mut PlanesMut) -> EvcRep
             Ok(moved) => moved,
             Err(refusal) => return answer(Err(refusal), index, counts),
         };
-        let moved0 = moved.moved0;
-        let moved1 = moved.moved1;
+        let moved0 = EvcMoved::from(moved.moved0);
+        let moved1 = EvcMoved::from(moved.moved1);
         counts = counts.with_lists(moved0, moved1);
         index += 1;
     }

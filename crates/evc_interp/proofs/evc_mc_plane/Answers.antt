@@ -1,12 +1,6 @@
 -- `evc_interp::evc_mc_plane` meets its contract: refused, or the call of its plane. Assumes nothing.
 use mathlib.Core.Path.{◌≡◌, sym, ap₂, ◌∙◌}
-use borrow.Author.Rules.{rules}
-use mir.Facts.{to_z-of_z}
-use mir.Syntax.{w16}
-use mir.Val.{to_z, of_z, SFits}
 use Rattle.evc_def.specs.Places.{given_place}
-use Rattle.evc_def.specs.declared.EvcMv.{EvcMv}
-use Rattle.evc_def.specs.declared.Qpel.{Qpel}
 use Rattle.evc_def.specs.declared.QpelPlace.{QpelPlace}
 use Rattle.evc_plane.specs.declared.PlaneType.{PlaneType}
 use Rattle.evc_interp.specs.Prediction.{mc_plane_code, mc_plane_after}
@@ -34,18 +28,11 @@ returns-in_err-pic c =
     let parts = untouched a.t _ _ a.ori_mv _ _ _ _ _ _ (above_0 _) e in
     rw (p.1, p.2) (record { value = parts.0; pred_after = parts.1 })
 
-made : (gmv : EvcMv) (x y : Qpel) → x.0 ≡ gmv.x → y.0 ≡ gmv.y → record { x = x; y = y } ≡ given_place gmv
-made gmv x y p q = rw (p, q)
-
--- the place that is handed on is the one that the definition names
-placed : (gmv : EvcMv) (x y : Qpel) → SFits w16 gmv.x → SFits w16 gmv.y → x.0 ≡ to_z w16 (of_z w16 gmv.x) → y.0 ≡ to_z w16 (of_z w16 gmv.y) → record { x = x; y = y } ≡ given_place gmv
-placed gmv x y f g p q = made _ _ _ (p ∙ to_z-of_z f) (q ∙ to_z-of_z g)
-
 pub returns-in-Y : goal.returns-in-Y
 returns-in-Y c =
     let a = c.args in
     let t = sym c.in-Y.is in
-    let p = placed a.gmv c.from.result c.from-2.result (search rules) (search rules) c.from.ensures c.from-2.ensures in
+    let p = c.from-place.ensures in
     let w = c.in_ok-pic.ensures.value in
     record {
       value = simp (w.0, w.1) at c.mc_plane.ensures.value ∙ ap₂ (λ (t : PlaneType) (p : QpelPlace). mc_plane_code t a.pic_w a.pic_h p a.w a.h a.plane.now a.pred.now) t p;
@@ -56,7 +43,7 @@ pub returns-in-UV : goal.returns-in-UV
 returns-in-UV c =
     let a = c.args in
     let t = sym c.in-UV.is in
-    let p = placed a.gmv c.from.result c.from-2.result (search rules) (search rules) c.from.ensures c.from-2.ensures in
+    let p = c.from-place.ensures in
     let w = c.in_ok-pic.ensures.value in
     record {
       value = simp (w.0, w.1) at c.mc_plane-in-UV.ensures.value ∙ ap₂ (λ (t : PlaneType) (p : QpelPlace). mc_plane_code t a.pic_w a.pic_h p a.w a.h a.plane.now a.pred.now) t p;

@@ -1,12 +1,9 @@
 -- `evc_plane::PlaneType::xorigin` meets its contract. Assumes nothing.
-use native.Mathlib.Omega.{arith}
-use Rattle.evc_plane.specs.Planes.{origin_of}
+use mathlib.Core.Path.{ap, ◌∙◌}
+use Rattle.evc_plane.specs.Planes.{align16, origin_of}
+use Rattle.evc_plane.proofs.Sizes.{next_16}
 use Rattle.evc_plane.proofs.PlaneType.xorigin.Goals as goal
 
-pub returns-in-Y : goal.returns-in-Y
+pub returns : goal.returns
 unfolding origin_of
-returns-in-Y c = grind arith
-
-pub returns-in-UV : goal.returns-in-UV
-unfolding origin_of
-returns-in-UV c = grind arith
+returns c = c.next_multiple_of.ensures.value ∙ next_16 _ ∙ ap align16 c.pad_size.ensures
