@@ -10,7 +10,7 @@ use Rattle.std.specs.Cmp.{both_ways}
 use Rattle.std.proofs.Math.Bool.{and_assoc}
 use Rattle.evc_int.specs.Whole.{eq_z}
 use Rattle.evc_int.proofs.Whole.{eq_z-true}
-use Rattle.evc_int.proofs.Expressions.{!, ◌⊕◌, solve, fact}
+use Rattle.evc_int.proofs.Expressions.{ !, ◌⊕◌, solve, fact}
 use Rattle.evc_def.specs.Places.{is_same}
 use Rattle.evc_def.specs.declared.EvcBlock.{EvcBlock}
 use Rattle.evc_def.specs.declared.QpelPlace.{QpelPlace}
