@@ -32,7 +32,11 @@ impl EvcList {
     fn leaves_empty(self) -> PredBlock
         ensures { result ≡ cond self.used Second First }
     {
-        if self.used { PredBlock::Second } else { PredBlock::First }
+        if self.used {
+            PredBlock::Second
+        } else {
+            PredBlock::First
+        }
     }
 }
 
@@ -142,7 +146,14 @@ impl RefPicList<'_> {
     }
 
     // The three planes, if the list is in use, to the block that is picked.
-    fn predict(&self, b: Block, gmv: QpelPlace, pred0: &mut [u16], pred1: &mut [u16], block: PredBlock)
+    fn predict(
+        &self,
+        b: Block,
+        gmv: QpelPlace,
+        pred0: &mut [u16],
+        pred1: &mut [u16],
+        block: PredBlock,
+    )
         requires gmv_value { gmv ≡ clipped_place b.given self.now.list.mv }
         requires list_examined { ListExamined b.given gmv (list_of self.now) }
         requires pred_len_in_bounds { (pred_len ≤ length pred0.old) × (pred_len ≤ length pred1.old) }

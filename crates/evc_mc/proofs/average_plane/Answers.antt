@@ -2,7 +2,7 @@
 use Prim.Native.Nat.{ℕ, ◌+◌, ◌-◌, ◌*◌, ◌<◌, ◌≤◌}
 use mathlib.Core.List.{List, ◌++◌}
 use mathlib.Core.Logic.{inr}
-use mathlib.Core.Path.{◌≡◌, refl, sym, ap, ap₂, ◌∙◌}
+use mathlib.Core.Path.{◌≡◌, refl, ap, ap₂, ◌∙◌}
 use native.Mathlib.Nat.{zero-add, add-zero}
 use native.Mathlib.Omega.{arith}
 use lib.ListN.{length, get_or, take, drop}
@@ -33,7 +33,8 @@ still : (l l₀ : List ℕ) (i : ℕ) (f : ℕ → ℕ) → l ≡ with_row l₀ 
 still l l₀ i f e = ap (λ (k : List ℕ). get_or k i 0) e ∙ with_row-out 0 l₀ 0 i f i (inr (omega arith))
 
 -- both are at most 1023, and their sum fits
-both_small : (l m p : List ℕ) (o n k i : ℕ) (f : ℕ → ℕ) → k ≡ n → i < k → RowSmall l o n → RowSmall m o n → p ≡ with_row (part o k l) 0 i f → get_or p i 0 + get_or (part o k m) i 0 ≤ 2046
+both_small : (l m p : List ℕ) (o n k i : ℕ) (f : ℕ → ℕ) → k ≡ n → i < k → RowSmall l o n → RowSmall m o n → p ≡ with_row (part o k l) 0 i f
+    → get_or p i 0 + get_or (part o k m) i 0 ≤ 2046
 both_small l m p o n k i f e lt s t q =
     omega (arith, still p (part o k l) i f q, part_at l o k i lt, part_at m o k i lt, s i (omega arith), t i (omega arith))
 
@@ -43,23 +44,26 @@ loop-i-init c = refl
 
 pub overflow_add-sample : goal.overflow_add-sample
 overflow_add-sample c =
-    let s = both_small c.args.pred0.now c.args.pred1.now _ _ c.args.n _ _ _ (omega arith) (omega (arith, length-take {A = ℕ})) c.requires.row_small.0 c.requires.row_small.1 c.loop-i.invariant in
+    let s = both_small _ _ _ _ c.args.n _ _ _ (omega arith) (omega (arith, length-take {A = ℕ})) c.requires.row_small.0 c.requires.row_small.1 c.loop-i.invariant in
     record { fits = omega (arith, s) }
 
 pub overflow_add-sample-in-loop-i : goal.overflow_add-sample-in-loop-i
 overflow_add-sample-in-loop-i c =
-    let s = both_small c.args.pred0.now c.args.pred1.now _ _ c.args.n _ _ _ (omega arith) (omega (arith, length-take {A = ℕ})) c.requires.row_small.0 c.requires.row_small.1 c.loop-i.invariant in
+    let s = both_small _ _ _ _ c.args.n _ _ _ (omega arith) (omega (arith, length-take {A = ℕ})) c.requires.row_small.0 c.requires.row_small.1 c.loop-i.invariant in
     record { fits = omega (arith, s) }
 
 pub loop-i-preserved : goal.loop-i-preserved
 loop-i-preserved c =
     let i = c.loop-i.invariant in
-    simp zero-add at (row_step _ _ 0 c.loop-i.i _ _ i (ap (λ (v : ℕ). average v (get_or (part c.args.offset (c.args.offset + c.args.n - c.args.offset) c.args.pred1.now) c.loop-i.i 0)) (still _ _ _ _ i)))
+    let second = part c.args.offset (c.args.offset + c.args.n - c.args.offset) c.args.pred1.now in
+    simp zero-add at (row_step _ _ 0 c.loop-i.i _ _ i (ap (λ (v : ℕ). average v (get_or second c.loop-i.i 0)) (still _ _ _ _ i)))
 
+-- the part of the averages is put back
 averaged : (l m p : List ℕ) (o n k i : ℕ) → k ≡ n → i ≡ k → o + n ≤ length l → p ≡ with_row (part o k l) 0 i (λ (j : ℕ). average (get_or (part o k l) j 0) (get_or (part o k m) j 0))
     → take o l ++ (p ++ drop k (drop o l)) ≡ with_row l o n (λ (j : ℕ). average (get_or l (o + j) 0) (get_or m (o + j) 0))
 averaged l m p o n k i e f b q =
-    rw (q, f, e) (ap (λ (r : List ℕ). take o l ++ (r ++ drop n (drop o l))) (with_row-ext (part o n l) 0 n _ _ (λ j lt. ap₂ average (part_at l o n j lt) (part_at m o n j lt))) ∙ row_part l o n _ b)
+    rw (q, f, e) (ap (λ (r : List ℕ). take o l ++ (r ++ drop n (drop o l))) (with_row-ext (part o n l) 0 n _ _ (λ j lt. ap₂ average (part_at l o n j lt) (part_at m o n j lt)))
+    ∙ row_part l o n _ b)
 
 pub returns : goal.returns
 returns c =

@@ -55,8 +55,8 @@ returns-then-both c =
     let both = c.if-both.true in
     let t = both_true a.l0.now.list.used a.l1.now.list.used both in
     let differs =
-        sym (same_motion_is a.b.given a.l0.now.list a.l1.now.list _ _ _ c.requires.gmv_values.0 c.requires.gmv_values.1 c.same_motion.ensures)
-        ∙ and_false_right (a.l0.now.list.used && a.l1.now.list.used) _ c.if-both-same_motion.false both in
+    sym (same_motion_is a.b.given a.l0.now.list a.l1.now.list _ _ _ c.requires.gmv_values.0 c.requires.gmv_values.1 c.same_motion.ensures)
+    ∙ and_false_right (a.l0.now.list.used && a.l1.now.list.used) _ c.if-both-same_motion.false both in
     let parts = averaged a.b.given (list_of a.l0.now) (list_of a.l1.now) _ _ _ _ p.pred0_after p.pred1_after _ _ _ c.leaves_empty.ensures q.pred0_after q.pred1_after t.0 t.1
-        (sides _ g.block) g.p_long g.q_long _ (not_same _ _ _ both differs) c.average_block.ensures in
+    (sides _ g.block) g.p_long g.q_long _ (not_same _ _ _ both differs) c.average_block.ensures in
     record { pred0_after = parts.0; pred1_after = parts.1 }
