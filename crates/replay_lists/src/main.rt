@@ -7,6 +7,7 @@ ghost use Rattle.replay_lists.specs.declared.TheConstants.{MAX_TRACE_LEN};
 
 use evc_def::RefList;
 use evc_lists::{Arbitrary, ArbitraryPlanes, MAX_RECORDS, Pictures, Planes, Record};
+use evc_record::{PlanesMut, References};
 use evc_replay::EvcReplay;
 use std::alloc::{AllocError, Global};
 use std::io::{Read, Write};
@@ -117,30 +118,26 @@ impl Call {
         self.map.map(|map| map.numbers(alloc)).transpose()
     }
 
-    fn replay(
-        &self,
-        ref0: &Planes,
-        ref1: &Planes,
-        map: Option<&[i16]>,
-        target: &mut Planes,
-    ) -> EvcReplay {
-        evc_replay::evc_trace_replay(
-            &self.trace,
-            lent(ref0),
-            lent(ref1),
-            map,
-            &mut target.y,
-            &mut target.u,
-            &mut target.v,
-        )
+    fn replay(&self, references: &References, target: &mut Planes) -> EvcReplay {
+        let mut target = PlanesMut {
+            y: &mut target.y,
+            u: &mut target.u,
+            v: &mut target.v,
+        };
+        evc_replay::evc_trace_replay(&self.trace, references, &mut target)
     }
 
     fn answer(&self, alloc: Global) -> Result<Answer, AllocError> {
         let ref0 = self.pictures.picture(alloc, RefList::List0)?;
         let ref1 = self.pictures.picture(alloc, RefList::List1)?;
         let map = self.map(alloc)?;
+        let references = References {
+            ref0: lent(&ref0),
+            ref1: lent(&ref1),
+            col_mv: map.as_deref(),
+        };
         let mut target = self.target.planes(alloc, TARGET_LIMIT)?;
-        let replayed = self.replay(&ref0, &ref1, map.as_deref(), &mut target);
+        let replayed = self.replay(&references, &mut target);
         let target = Hashes {
             y: evc_lists::hash(&target.y),
             u: evc_lists::hash(&target.u),
