@@ -32,10 +32,6 @@ within_more s r counted mv k w e x y =
     more false = omega arith
 
 module _ (map : List ℤ) (words : List ℕ) where
-  pub no_units : record { units = 0; x = pos 0; y = pos 0 } ≡ sums_of map words 0
-  unfolding sums_of
-  no_units = refl
-
   -- a unit counts by its word, or since all of them do
   known : (all this t : Bool) → this ≡ t → (all ≡ true → t ≡ true) → (all || this) ≡ t
   known true this t e h = sym (h refl)
