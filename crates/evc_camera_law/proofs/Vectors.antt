@@ -6,7 +6,7 @@ use Prim.Native.Nat.{ℕ, zero, suc, ◌+◌, ◌*◌, ◌<◌, ◌≤◌}
 use native.Mathlib.Omega.{arith}
 use lib.IntN.{ℤ, pos, neg_ℤ, nat_abs, ◌+ℤ◌}
 use lib.ListN.{get_or}
-use Rattle.evc_int.proofs.Whole.{of, is-+, is_neg, same, abs_add_le}
+use Rattle.std.proofs.lemmas.Int.{ints}
 use Rattle.evc_def.specs.declared.EvcMv.{EvcMv}
 use Rattle.evc_map.specs.Maps.{mv_at}
 use Rattle.evc_camera.specs.declared.Sums.{Sums}
@@ -42,10 +42,7 @@ abbrev pub Small : Sums → Type 0
 Small s = (nat_abs s.x ≤ 32768 * s.units) × (nat_abs s.y ≤ 32768 * s.units)
 
 small_more : (s : Sums) (mv : EvcMv) (b : Bool) → nat_abs mv.x ≤ 32768 → nat_abs mv.y ≤ 32768 → Small s → Small (cond b (with_mv s mv) s)
-small_more s mv true h k e =
-    let x = abs_add_le s.x mv.x e.0 h in
-    let y = abs_add_le s.y mv.y e.1 k in
-    (omega arith, omega arith)
+small_more s mv true h k e = omega (arith, ints)
 small_more s mv false h k e = e
 
 module _ (mvs : List ℤ) (words : List ℕ) (h : (i : ℕ) → nat_abs (get_or mvs i (pos 0)) ≤ 32768) where
@@ -96,7 +93,7 @@ map_kept (mv ∷ l) = ap (λ (m : List EvcMv). mv ∷ m) (map_kept l)
 -- ---- any order
 
 exchanged : (s a b : ℤ) → s +ℤ a +ℤ b ≡ s +ℤ b +ℤ a
-exchanged s a b = same (is-+ (is-+ (of s) (of a)) (of b)) (is-+ (is-+ (of s) (of b)) (of a)) (omega arith)
+exchanged s a b = omega (arith, ints)
 
 either_first : (s : Sums) (a b : EvcMv) → with_mv (with_mv s a) b ≡ with_mv (with_mv s b) a
 either_first s a b = ap₂ (λ (x y : ℤ). record { units = s.units + 1 + 1; x = x; y = y }) (exchanged s.x a.x b.x) (exchanged s.y a.y b.y)
@@ -118,7 +115,7 @@ pub kept_adds : Adds (λ (z : ℤ). z)
 kept_adds = record { of_zero = refl; of_sum = λ a b. refl }
 
 pub neg_adds : Adds neg_ℤ
-neg_adds = record { of_zero = refl; of_sum = λ a b. same (is-+ (is_neg (of a)) (is_neg (of b))) (is_neg (is-+ (of a) (of b))) (omega arith) }
+neg_adds = record { of_zero = refl; of_sum = λ a b. omega (arith, ints) }
 
 module _ (f g : ℤ → ℤ) where
   abbrev pub mv_by : EvcMv → EvcMv

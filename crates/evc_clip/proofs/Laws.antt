@@ -1,6 +1,6 @@
 -- Laws of clipping. Assumes nothing.
 use mathlib.Core.Bool.{Bool, true, false, cond}
-use mathlib.Core.Path.{◌≡◌, refl, sym, ap, subst}
+use mathlib.Core.Path.{◌≡◌, refl, sym, subst}
 use Prim.Native.Nat.{ℕ, ◌+◌, ◌-◌, ◌*◌, ◌/◌, ◌≤◌, ◌<◌}
 use native.Mathlib.Omega.{arith}
 use lib.Dec.{lit<}
@@ -9,10 +9,8 @@ use lib.Signed.{◌≤ℤ◌, lt_z}
 use mir.Syntax.{w16}
 use mir.Val.{SFits}
 use Rattle.evc_int.specs.Whole.{−◌, ◌⁺, ◌⁻, ◌modulo◌, clip3}
-use Rattle.evc_int.proofs.Whole.{Tested, under, not_under, of}
-use Rattle.evc_int.proofs.Expressions.{Ex, !, ◌⊕◌, ◌⊖◌, ◌⊗◌, neg, value, more, less, solve, fact, solve≤, tested_ex}
+use Rattle.evc_int.proofs.Whole.{parts_are}
 use Rattle.evc_int.proofs.Division.{split_only}
-use Rattle.evc_int.proofs.Machine.{fit}
 use Rattle.evc_def.specs.Blocks.{Allowed}
 use Rattle.evc_clip.specs.Clip.{margin, not_moved, moved_low, moved_high, other_side, ClippedComponent, place_of, clip_component, moved_component}
 
@@ -25,30 +23,20 @@ data Clips (W x w : ℕ) (mv r : ℤ) : ℕ → Type 0 where
 
 clips : (W x w : ℕ) (mv : ℤ) → Clips W x w mv (clip_component W x w mv) (moved_component W x w mv)
 unfolding clip_component moved_component
-clips W x w mv = go _ _ (tested_ex place (! (− 256))) (tested_ex limit last)
+clips W x w mv = go _ _ refl refl
   where
-    place : Ex
-    place = ! (pos 4) ⊗ ! (pos x) ⊕ ! mv
-
-    limit : Ex
-    limit = ! (pos 4) ⊗ (! (pos W) ⊖ ! (pos 1) ⊕ ! (pos margin))
-
-    last : Ex
-    last = place ⊕ ! (pos 4) ⊗ ! (pos w) ⊖ ! (pos 4)
-
-    lowest : Ex
-    lowest = ! (− 256) ⊖ ! (pos 4) ⊗ ! (pos x)
-
-    highest : Ex
-    highest = limit ⊖ ! (pos 4) ⊗ ! (pos x) ⊖ ! (pos 4) ⊗ ! (pos w) ⊕ ! (pos 4)
+    limit : ℤ
+    limit = pos 4 *ℤ (pos W -ℤ pos 1 +ℤ pos margin)
 
     by_tests : Bool → Bool → ClippedComponent
-    by_tests s t = cond s (record { mv = value lowest; moved = moved_low }) (cond t (record { mv = value highest; moved = moved_high }) (record { mv = mv; moved = not_moved }))
+    by_tests s t =
+        cond s (record { mv = − 256 -ℤ pos 4 *ℤ pos x; moved = moved_low })
+        (cond t (record { mv = limit -ℤ pos 4 *ℤ pos x -ℤ pos 4 *ℤ pos w +ℤ pos 4; moved = moved_high }) (record { mv = mv; moved = not_moved }))
 
-    go : (s t : Bool) → Tested (more place + 256) (0 + less place) s → Tested (more limit + less last) (more last + less limit) t → Clips W x w mv (by_tests s t).mv (by_tests s t).moved
-    go true t (under a) b = low (omega arith) (omega (arith, fact (! (value lowest)) lowest refl))
-    go false true (not_under a) (under b) = high (omega arith) (omega (arith, fact (! (value highest)) highest refl))
-    go false false (not_under a) (not_under b) = kept (omega arith) (omega arith) refl
+    go : (s t : Bool) → lt_z (place_of x mv) (− 256) ≡ s → lt_z limit (place_of x mv +ℤ pos 4 *ℤ pos w -ℤ pos 4) ≡ t → Clips W x w mv (by_tests s t).mv (by_tests s t).moved
+    go true t a b = low (omega (arith, parts_are)) (omega (arith, parts_are))
+    go false true a b = high (omega (arith, parts_are)) (omega (arith, parts_are))
+    go false false a b = kept (omega (arith, parts_are)) (omega (arith, parts_are)) refl
 
 -- ---- the clipped place: the place itself, clipped to -256 .. 4 (W + 64 - w)
 
@@ -58,26 +46,12 @@ last_place W w = pos 4 *ℤ (pos W +ℤ pos margin -ℤ pos w)
 module _ (W x w : ℕ) (mv : ℤ) (h : w ≤ W) where
   pub clipped_place_lem : place_of x (clip_component W x w mv) ≡ clip3 (− 256) (last_place W w) (place_of x mv)
   unfolding clip3
-  clipped_place_lem = go _ _ _ (clips W x w mv) (tested_ex place (! (− 256))) (tested_ex top place)
+  clipped_place_lem = go _ (clips W x w mv)
     where
-      place : Ex
-      place = ! (pos 4) ⊗ ! (pos x) ⊕ ! mv
-
-      top : Ex
-      top = ! (pos 4) ⊗ (! (pos W) ⊕ ! (pos margin) ⊖ ! (pos w))
-
-      new : ℤ → Ex
-      new r = ! (pos 4) ⊗ ! (pos x) ⊕ ! r
-
-      go : (r : ℤ) (s t : Bool) {m : ℕ} → Clips W x w mv r m → Tested (more place + 256) (0 + less place) s → Tested (more top + less place) (more place + less top) t → value (new r) ≡ cond s (− 256) (cond t (value top) (value place))
-      go r true t (low a p) (under b) c = solve (new r) (! (− 256)) (omega arith)
-      go r true t (high a p) (under b) c = absurd (omega arith)
-      go r true t (kept a b p) (under d) c = absurd (omega arith)
-      go r false t (low a p) (not_under b) c = absurd (omega arith)
-      go r false true (high a p) (not_under b) (under c) = solve (new r) top (omega arith)
-      go r false false (high a p) (not_under b) (not_under c) = absurd (omega arith)
-      go r false true (kept a b p) (not_under d) (under c) = absurd (omega arith)
-      go r false false (kept a b p) (not_under d) (not_under c) = ap (λ (z : ℤ). place_of x z) p
+      go : (r : ℤ) {m : ℕ} → Clips W x w mv r m → place_of x r ≡ clip3 (− 256) (last_place W w) (place_of x mv)
+      go r (low a p) = grind (arith, parts_are)
+      go r (high a p) = grind (arith, parts_are)
+      go r (kept a b p) = grind (arith, parts_are)
 
 -- ---- the report
 
@@ -87,8 +61,8 @@ module _ (W x w : ℕ) (mv : ℤ) where
   kept_unreported = go (clip_component W x w mv) (moved_component W x w mv) (clips W x w mv)
     where
       go : (r : ℤ) (m : ℕ) → Clips W x w mv r m → r ≡ mv → m ≡ not_moved
-      go r m (low a p) e = let f = fact (! r) (! mv) e in absurd (omega arith)
-      go r m (high a p) e = let f = fact (! r) (! mv) e in absurd (omega arith)
+      go r m (low a p) e = absurd (omega (arith, parts_are))
+      go r m (high a p) e = absurd (omega (arith, parts_are))
       go r m (kept a b p) e = refl
 
   pub unreported_kept : moved_component W x w mv ≡ not_moved → clip_component W x w mv ≡ mv
@@ -101,22 +75,17 @@ module _ (W x w : ℕ) (mv : ℤ) where
 
   -- the report from the exact place e and the clipped place g alone: whether e lies below g, or above it
   pub report : (e g : ℤ) (s t : Bool) → e ≡ place_of x mv → g ≡ place_of x (clip_component W x w mv) → lt_z e g ≡ s → lt_z g e ≡ t → cond s moved_low (cond t moved_high not_moved) ≡ moved_component W x w mv
-  report e g s t ee eg es et =
-      go (clip_component W x w mv) (moved_component W x w mv) s t (clips W x w mv) (omega (arith, fact (! g) (! (pos 4) ⊗ ! (pos x) ⊕ ! (clip_component W x w mv)) eg))
-      (subst (Tested _ _) es (tested_ex (! e) (! g))) (subst (Tested _ _) et (tested_ex (! g) (! e)))
+  report e g s t ee eg es et = go (clip_component W x w mv) (moved_component W x w mv) s t (clips W x w mv) eg es et
     where
-      exact : e ⁺ + mv ⁻ ≡ 4 * x + mv ⁺ + e ⁻
-      exact = omega (arith, fact (! e) (! (pos 4) ⊗ ! (pos x) ⊕ ! mv) ee)
-
-      go : (r : ℤ) (m : ℕ) (s t : Bool) → Clips W x w mv r m → g ⁺ + r ⁻ ≡ 4 * x + r ⁺ + g ⁻ → Tested (e ⁺ + g ⁻) (g ⁺ + e ⁻) s → Tested (g ⁺ + e ⁻) (e ⁺ + g ⁻) t → cond s moved_low (cond t moved_high not_moved) ≡ m
-      go r m true t (low a p) q (under u) v = refl
-      go r m false t (low a p) q (not_under u) v = absurd (omega (arith, exact))
-      go r m true t (high a p) q (under u) v = absurd (omega (arith, exact))
-      go r m false true (high a p) q (not_under u) (under v) = refl
-      go r m false false (high a p) q (not_under u) (not_under v) = absurd (omega (arith, exact))
-      go r m true t (kept a b p) q (under u) v = absurd (omega (arith, exact, fact (! r) (! mv) p))
-      go r m false true (kept a b p) q (not_under u) (under v) = absurd (omega (arith, exact, fact (! r) (! mv) p))
-      go r m false false (kept a b p) q (not_under u) (not_under v) = refl
+      go : (r : ℤ) (m : ℕ) (s t : Bool) → Clips W x w mv r m → g ≡ place_of x r → lt_z e g ≡ s → lt_z g e ≡ t → cond s moved_low (cond t moved_high not_moved) ≡ m
+      go r m true t (low a p) q u v = refl
+      go r m false t (low a p) q u v = absurd (omega (arith, parts_are))
+      go r m true t (high a p) q u v = absurd (omega (arith, parts_are))
+      go r m false true (high a p) q u v = refl
+      go r m false false (high a p) q u v = absurd (omega (arith, parts_are))
+      go r m true t (kept a b p) q u v = absurd (omega (arith, parts_are))
+      go r m false true (kept a b p) q u v = absurd (omega (arith, parts_are))
+      go r m false false (kept a b p) q u v = refl
 
 -- ---- the mirror: the vector negated, the block as far from the picture's other end (x + x' + w ≡ W). The two clipped places add up to 4 (W - w)
 
@@ -124,42 +93,30 @@ module _ (W x x' w : ℕ) (mv : ℤ) (h : x + x' + w ≡ W) where
   pub clipped_mirror : place_of x (clip_component W x w mv) +ℤ place_of x' (clip_component W x' w (neg_ℤ mv)) ≡ pos 4 *ℤ (pos W -ℤ pos w)
   clipped_mirror = go _ _ (clips W x w mv) (clips W x' w (neg_ℤ mv))
     where
-      sum : ℤ → ℤ → Ex
-      sum r r' = ! (pos 4) ⊗ ! (pos x) ⊕ ! r ⊕ (! (pos 4) ⊗ ! (pos x') ⊕ ! r')
-
-      free : Ex
-      free = ! (pos 4) ⊗ (! (pos W) ⊖ ! (pos w))
-
-      turned : neg_ℤ mv ⁺ + mv ⁺ ≡ mv ⁻ + neg_ℤ mv ⁻
-      turned = fact (! (neg_ℤ mv)) (neg (! mv)) refl
-
-      go : (r r' : ℤ) {m m' : ℕ} → Clips W x w mv r m → Clips W x' w (neg_ℤ mv) r' m' → value (sum r r') ≡ value free
-      go r r' (low a p) (low a' p') = absurd (omega (arith, turned))
-      go r r' (low a p) (high a' p') = solve (sum r r') free (omega arith)
-      go r r' (low a p) (kept a' b' p') = absurd (omega (arith, turned))
-      go r r' (high a p) (low a' p') = solve (sum r r') free (omega arith)
-      go r r' (high a p) (high a' p') = absurd (omega (arith, turned))
-      go r r' (high a p) (kept a' b' p') = absurd (omega (arith, turned))
-      go r r' (kept a b p) (low a' p') = absurd (omega (arith, turned))
-      go r r' (kept a b p) (high a' p') = absurd (omega (arith, turned))
-      go r r' (kept a b p) (kept a' b' p') = solve (sum r r') free (omega (arith, fact (! r) (! mv) p, fact (! r') (neg (! mv)) p'))
+      go : (r r' : ℤ) {m m' : ℕ} → Clips W x w mv r m → Clips W x' w (neg_ℤ mv) r' m' → place_of x r +ℤ place_of x' r' ≡ pos 4 *ℤ (pos W -ℤ pos w)
+      go r r' (low a p) (low a' p') = absurd (omega (arith, parts_are))
+      go r r' (low a p) (high a' p') = omega (arith, parts_are)
+      go r r' (low a p) (kept a' b' p') = absurd (omega (arith, parts_are))
+      go r r' (high a p) (low a' p') = omega (arith, parts_are)
+      go r r' (high a p) (high a' p') = absurd (omega (arith, parts_are))
+      go r r' (high a p) (kept a' b' p') = absurd (omega (arith, parts_are))
+      go r r' (kept a b p) (low a' p') = absurd (omega (arith, parts_are))
+      go r r' (kept a b p) (high a' p') = absurd (omega (arith, parts_are))
+      go r r' (kept a b p) (kept a' b' p') = omega (arith, parts_are)
 
   -- so the low side and the high side change places
   pub moved_mirror : moved_component W x' w (neg_ℤ mv) ≡ other_side (moved_component W x w mv)
   moved_mirror = go _ _ _ _ (clips W x w mv) (clips W x' w (neg_ℤ mv))
     where
-      turned : neg_ℤ mv ⁺ + mv ⁺ ≡ mv ⁻ + neg_ℤ mv ⁻
-      turned = fact (! (neg_ℤ mv)) (neg (! mv)) refl
-
       go : (r r' : ℤ) (m m' : ℕ) → Clips W x w mv r m → Clips W x' w (neg_ℤ mv) r' m' → m' ≡ other_side m
-      go r r' m m' (low a p) (low a' p') = absurd (omega (arith, turned))
+      go r r' m m' (low a p) (low a' p') = absurd (omega (arith, parts_are))
       go r r' m m' (low a p) (high a' p') = refl
-      go r r' m m' (low a p) (kept a' b' p') = absurd (omega (arith, turned))
+      go r r' m m' (low a p) (kept a' b' p') = absurd (omega (arith, parts_are))
       go r r' m m' (high a p) (low a' p') = refl
-      go r r' m m' (high a p) (high a' p') = absurd (omega (arith, turned))
-      go r r' m m' (high a p) (kept a' b' p') = absurd (omega (arith, turned))
-      go r r' m m' (kept a b p) (low a' p') = absurd (omega (arith, turned))
-      go r r' m m' (kept a b p) (high a' p') = absurd (omega (arith, turned))
+      go r r' m m' (high a p) (high a' p') = absurd (omega (arith, parts_are))
+      go r r' m m' (high a p) (kept a' b' p') = absurd (omega (arith, parts_are))
+      go r r' m m' (kept a b p) (low a' p') = absurd (omega (arith, parts_are))
+      go r r' m m' (kept a b p) (high a' p') = absurd (omega (arith, parts_are))
       go r r' m m' (kept a b p) (kept a' b' p') = refl
 
 -- ---- for a block that the checks allow
@@ -170,40 +127,29 @@ module _ (W x w : ℕ) (mv : ℤ) (ok : Allowed W x w) where
   clipped_fits f = go (clip_component W x w mv) (clips W x w mv)
     where
       go : (r : ℤ) {m : ℕ} → Clips W x w mv r m → SFits w16 r
-      go r (low a p) = fit (of r) (omega arith)
-      go r (high a p) = fit (of r) (omega arith)
+      go r (low a p) = omega (arith, parts_are)
+      go r (high a p) = omega (arith, parts_are)
       go r (kept a b p) = subst (SFits w16) (sym p) f
 
   -- the clipped place lies in -256 .. 4 (W + 64 - w)
   pub clipped_range : (− 256 ≤ℤ place_of x (clip_component W x w mv)) × (place_of x (clip_component W x w mv) ≤ℤ last_place W w)
   clipped_range = go (clip_component W x w mv) (clips W x w mv)
     where
-      at : ℤ → Ex
-      at r = ! (pos 4) ⊗ ! (pos x) ⊕ ! r
-
-      top : Ex
-      top = ! (pos 4) ⊗ (! (pos W) ⊕ ! (pos margin) ⊖ ! (pos w))
-
       go : (r : ℤ) {m : ℕ} → Clips W x w mv r m → (− 256 ≤ℤ place_of x r) × (place_of x r ≤ℤ last_place W w)
-      go r (low a p) = (solve≤ (! (− 256)) (at r) (omega arith), solve≤ (at r) top (omega arith))
-      go r (high a p) = (solve≤ (! (− 256)) (at r) (omega arith), solve≤ (at r) top (omega arith))
-      go r (kept a b p) =
-          let e = fact (! r) (! mv) p in
-          (solve≤ (! (− 256)) (at r) (omega arith), solve≤ (at r) top (omega arith))
+      go r (low a p) = omega (arith, parts_are)
+      go r (high a p) = omega (arith, parts_are)
+      go r (kept a b p) = omega (arith, parts_are)
 
   -- the place of a component that was moved is a multiple of 16, so its phase is 0 in luma and in chroma
   pub moved_aligned : (clip_component W x w mv ≡ mv → ⊥) → place_of x (clip_component W x w mv) modulo 16 ≡ 0
   moved_aligned moved = go (clip_component W x w mv) moved (clips W x w mv)
     where
-      at : ℤ → Ex
-      at r = ! (pos 4) ⊗ ! (pos x) ⊕ ! r
-
       q : ℕ
       q = (W + margin - w) / 4
 
       go : (r : ℤ) → (r ≡ mv → ⊥) → {m : ℕ} → Clips W x w mv r m → place_of x r modulo 16 ≡ 0
-      go r n (low a p) = (split_only 16 (place_of x r) (− 16) 0 (lit< tt) (solve (at r) (! (pos 16) ⊗ ! (− 16) ⊕ ! (pos 0)) (omega arith))).1
-      go r n (high a p) = (split_only 16 (place_of x r) (pos q) 0 (lit< tt) (solve (at r) (! (pos 16) ⊗ ! (pos q) ⊕ ! (pos 0)) (omega arith))).1
+      go r n (low a p) = (split_only 16 (place_of x r) (− 16) 0 (lit< tt) (omega (arith, parts_are))).1
+      go r n (high a p) = (split_only 16 (place_of x r) (pos q) 0 (lit< tt) (omega (arith, parts_are))).1
       go r n (kept a b p) = absurd (n p)
 
   -- clipping twice changes nothing more
@@ -217,6 +163,6 @@ module _ (W x w : ℕ) (mv : ℤ) (ok : Allowed W x w) where
       go r (high a p) s (low b q) = absurd (omega arith)
       go r (high a p) s (high b q) = absurd (omega arith)
       go r (high a p) s (kept b c q) = q
-      go r (kept a b p) s (low c q) = let e = fact (! r) (! mv) p in absurd (omega arith)
-      go r (kept a b p) s (high c q) = let e = fact (! r) (! mv) p in absurd (omega arith)
+      go r (kept a b p) s (low c q) = absurd (omega (arith, parts_are))
+      go r (kept a b p) s (high c q) = absurd (omega (arith, parts_are))
       go r (kept a b p) s (kept c d q) = q

@@ -1,14 +1,14 @@
--- Laws over ℤ by omega: an expression of sums, differences, products and negations is written down once (`Ex`), or read off the goal by `search`
--- (`reads`); `solve` proves an equation of two of them from one of naturals, `fact` and `known` turn one into naturals. Assumes nothing.
+-- Laws over ℤ by omega: an expression of sums, differences, products and negations is written down once (`Ex`); `solve` proves an equation of two of
+-- them from one of naturals, `fact` turns one into naturals. Where a product has a numeral in it, `omega (arith, ints)` of the library needs no expression;
+-- these are for products of two variables, and where an expression has to be cut in parts. Assumes nothing.
 --   solve (! x ⊕ ! y) (! y ⊕ ! x) (omega arith)
---   omega (arith, known (search (reads, at x, at y)) h)
-use mathlib.Core.Path.{◌≡◌, refl, sym, ap, ◌∙◌}
-use Prim.Native.Nat.{ℕ, ◌+◌, ◌*◌, ◌-◌, ◌≤◌}
+use mathlib.Core.Path.{◌≡◌, ap}
+use Prim.Native.Nat.{ℕ, ◌+◌, ◌*◌, ◌-◌}
 use native.Mathlib.Omega.{arith}
-use lib.IntN.{ℤ, pos, neg_ℤ, ◌+ℤ◌, ◌-ℤ◌, ◌*ℤ◌}
-use lib.Signed.{◌≤ℤ◌, lt_z}
+use lib.IntN.{ℤ, neg_ℤ, ◌+ℤ◌, ◌-ℤ◌, ◌*ℤ◌}
+use lib.Signed.{lt_z}
 use Rattle.evc_int.specs.Whole.{◌⁺, ◌⁻}
-use Rattle.evc_int.proofs.Whole.{Is, of, is-+, is--, is-*, is_neg, same, parts, Tested, tested, ≤ℤ-yes, yes-≤ℤ}
+use Rattle.evc_int.proofs.Whole.{Is, of, is-+, is--, is-*, is_neg, same, parts, Tested, tested}
 
 infixl 6 ◌⊕◌ ◌⊖◌
 infixl 7 ◌⊗◌
@@ -55,39 +55,8 @@ solve e f h = same (reading e) (reading f) h
 pub fact : (e f : Ex) → value e ≡ value f → more e + less f ≡ more f + less e
 fact e f h = let p = reading e in let q = reading f in omega (arith, ap (λ (z : ℤ). z ⁺) h, ap (λ (z : ℤ). z ⁻) h)
 
-pub solve≤ : (e f : Ex) → more e + less f ≤ more f + less e → value e ≤ℤ value f
-solve≤ e f h = yes-≤ℤ (reading e) (reading f) h
-
-pub fact≤ : (e f : Ex) → value e ≤ℤ value f → more e + less f ≤ more f + less e
-fact≤ e f h = ≤ℤ-yes (reading e) (reading f) h
-
 pub part⁺ : (e : Ex) → value e ⁺ ≡ more e - less e
 part⁺ e = (parts (reading e)).0
 
 pub tested_ex : (e f : Ex) → Tested (more e + less f) (more f + less e) (lt_z (value e) (value f))
 tested_ex e f = tested (reading e) (reading f)
-
--- ---- with no expression written: `search` reads it off, handed its atoms
-
-abbrev pub Read : ℤ → Type 0
-Read a = (e : Ex) × (value e ≡ a)
-
-abbrev pub at : (a : ℤ) → Read a
-at a = (! a, refl)
-
-abbrev pub read_pos : (n : ℕ) → Read (pos n)
-read_pos n = (! (pos n), refl)
-
-abbrev pub read-+ : (a b : ℤ) → Read a → Read b → Read (a +ℤ b)
-read-+ a b r s = (r.0 ⊕ s.0, λ i. r.1 i +ℤ s.1 i)
-
-abbrev pub read_neg : (a : ℤ) → Read a → Read (neg_ℤ a)
-read_neg a r = (neg r.0, λ i. neg_ℤ (r.1 i))
-
-abbrev pub read-* : (a b : ℤ) → Read a → Read b → Read (a *ℤ b)
-read-* a b r s = (r.0 ⊗ s.0, λ i. r.1 i *ℤ s.1 i)
-
-pub ruleset reads = (read-+, read-*, read_neg, read_pos)
-
-pub known : {a b : ℤ} (r : Read a × Read b) → a ≡ b → more r.0.0 + less r.1.0 ≡ more r.1.0 + less r.0.0
-known r h = fact r.0.0 r.1.0 (r.0.1 ∙ h ∙ sym r.1.1)

@@ -6,7 +6,7 @@ use Prim.Native.Nat.{ℕ, zero, suc, ◌+◌, ◌-◌, ◌*◌, ◌≤◌, ◌<�
 use native.Mathlib.Omega.{arith}
 use native.Mathlib.Nat.{mul-le-mul}
 use lib.IntN.{ℤ, pos, negsuc, neg_ℤ, ◌+ℤ◌, ◌-ℤ◌, ◌*ℤ◌, nat_abs}
-use lib.Signed.{lt_z, ◌≤ℤ◌}
+use lib.Signed.{lt_z}
 use borrow.Author.Differences.{up, down}
 use Rattle.std.proofs.lemmas.Int.{ints}
 use borrow.Author.Tests.{eq-eqb}
@@ -30,16 +30,13 @@ pub ruleset parts_are = (ints, positive_part, negative_part)
 pub record Is (z : ℤ) (a b : ℕ) : Type 0 where
   pub is : z ⁺ + b ≡ a + z ⁻
 
--- ---- leaves: any number, a natural, and a negative numeral -(n + 1)
+-- ---- leaves: any number, and a natural
 
 pub of : (z : ℤ) → Is z (z ⁺) (z ⁻)
 of z = record { is = refl }
 
 pub nat : (n : ℕ) → Is (pos n) n 0
 nat n = record { is = refl }
-
-pub minus : (n : ℕ) → Is (negsuc n) 0 (suc n)
-minus n = record { is = omega arith }
 
 -- ---- the same number by another pair, and an equal number by the same pair
 
@@ -125,13 +122,6 @@ module _ {x y : ℤ} {a b c d : ℕ} (p : Is x a b) (q : Is y c d) where
       go true e = under (omega (arith, parts_are))
       go false e = not_under (omega (arith, parts_are))
 
-  -- the orders that a clause may cite
-  pub ≤ℤ-yes : x ≤ℤ y → a + d ≤ c + b
-  ≤ℤ-yes h = omega (arith, parts_are)
-
-  pub yes-≤ℤ : a + d ≤ c + b → x ≤ℤ y
-  yes-≤ℤ h = omega (arith, parts_are)
-
 -- ---- sizes, for what is not linear
 
 pub abs_neg : (n : ℕ) → nat_abs (neg_ℤ (pos n)) ≡ n
@@ -146,6 +136,3 @@ abs-* (negsuc a) (negsuc b) = refl
 
 pub abs_mul_le : (x y : ℤ) {m n : ℕ} → nat_abs x ≤ m → nat_abs y ≤ n → nat_abs (x *ℤ y) ≤ m * n
 abs_mul_le x y h k = rw (abs-* x y) (mul-le-mul h k)
-
-pub abs_add_le : (x y : ℤ) {m n : ℕ} → nat_abs x ≤ m → nat_abs y ≤ n → nat_abs (x +ℤ y) ≤ m + n
-abs_add_le x y h k = omega (arith, ints)

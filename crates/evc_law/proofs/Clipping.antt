@@ -7,9 +7,10 @@ use mathlib.Core.Path.{◌≡◌, refl, sym, ap, ◌∙◌}
 use Prim.Native.Nat.{ℕ, zero, suc, ◌+◌, ◌-◌, ◌*◌, ◌/◌, ◌%◌, ◌≤◌, ◌<◌, min}
 use native.Mathlib.Omega.{arith}
 use lib.IntN.{ℤ, pos, ◌+ℤ◌, ◌*ℤ◌}
+use lib.Signed.{lt_z}
 use Rattle.evc_int.specs.Whole.{−◌, ◌⁺, ◌⁻, clip3}
-use Rattle.evc_int.proofs.Whole.{of, is_eq, is-k*, same, Tested, under, not_under}
-use Rattle.evc_int.proofs.Expressions.{Ex, !, ◌⊕◌, ◌⊖◌, ◌⊗◌, neg, more, less, reading, solve, fact, fact≤, part⁺, tested_ex}
+use Rattle.evc_int.proofs.Whole.{of, is_eq, is-k*, parts_are, same}
+use Rattle.evc_int.proofs.Expressions.{!, ◌⊕◌, ◌⊗◌, fact}
 use Rattle.evc_int.proofs.Division.{split}
 use Rattle.evc_def.specs.Blocks.{Allowed}
 use Rattle.evc_def.specs.declared.EvcBlock.{EvcBlock}
@@ -49,10 +50,10 @@ module _ (k : PlaneType) (p : ℤ) where
       omega (arith, fact (! p) (! (pos m) ⊗ ! q ⊕ ! (pos (phase_of k p))) (split m p (some_phase k)))
 
   tap_at : (c t : ℕ) → (pel_of k p +ℤ pos c +ℤ − lead k +ℤ pos t) ⁺ ≡ pel_of k p ⁺ + c + t - (pel_of k p ⁻ + lead k)
-  tap_at c t = let q = pel_of k p in omega (arith, part⁺ (! q ⊕ ! (pos c) ⊕ neg (! (pos (lead k))) ⊕ ! (pos t)))
+  tap_at c t = omega (arith, parts_are)
 
   whole_at : (c : ℕ) → (pel_of k p +ℤ pos c) ⁺ ≡ pel_of k p ⁺ + c - pel_of k p ⁻
-  whole_at c = let q = pel_of k p in omega (arith, part⁺ (! q ⊕ ! (pos c)))
+  whole_at c = omega (arith, parts_are)
 
 -- Below the low limit, 64 samples before the picture's first (in chroma 32): at phase 0 the block's last sample lies before the picture. At another phase the
 -- place is a whole sample further out; the last tap, 3 past it (chroma 2), lies on the edge sample or before where the block has at most 32 samples, or where the
@@ -117,46 +118,37 @@ module _ (k : PlaneType) (W x w : ℕ) (ok : Allowed W x w) (f : ℤ → ℤ) (p
   high_phase : phase_of k (last_place W w) ≡ 0
   high_phase =
       let q = (W + margin - w) / 4 in
-      aligned_phase k (last_place W w) (pos q) (pos 0) (solve (! (pos 4) ⊗ (! (pos W) ⊕ ! (pos margin) ⊖ ! (pos w))) (! (pos 16) ⊗ ! (pos q) ⊕ ! (pos 0)) (omega arith)) (zero_phase k)
+      aligned_phase k (last_place W w) (pos q) (pos 0) (omega (arith, parts_are)) (zero_phase k)
 
   tapped_clipped : (mv : ℤ) → Hidden k W x w mv → tapped k f (pos 4 *ℤ pos x +ℤ clip_component W x w mv) c ≡ tapped k f (pos 4 *ℤ pos x +ℤ mv) c
   unfolding clip3
   tapped_clipped mv hidden =
       let e = clipped_place_lem W x w mv (omega arith) in
-      ap (λ (z : ℤ). tapped k f z c) e ∙ go _ _ (tested_ex place (! (− 256))) (tested_ex top place) e
+      ap (λ (z : ℤ). tapped k f z c) e ∙ go _ _ refl refl e
     where
-      place : Ex
-      place = ! (pos 4) ⊗ ! (pos x) ⊕ ! mv
-
-      top : Ex
-      top = ! (pos 4) ⊗ (! (pos W) ⊕ ! (pos margin) ⊖ ! (pos w))
-
       exact : ℤ
       exact = pos 4 *ℤ pos x +ℤ mv
 
       clipped : ℤ
       clipped = clip_component W x w mv
 
-      at : Ex
-      at = ! (pos 4) ⊗ ! (pos x) ⊕ ! clipped
-
       far_low : Hidden k W x w mv → pos 4 *ℤ pos x +ℤ clipped ≡ − 256 → exact ⁺ + 256 < exact ⁻ → (side_of k w ≤ 32) ⊎ (exact ⁺ + 260 ≤ exact ⁻)
       far_low (small n) e h = inl n
-      far_low (kept q) e h = absurd (omega (arith, fact at (! (− 256)) e, fact (! clipped) (! mv) q, (reading place).is))
-      far_low (raised l) e h = inr (omega (arith, fact at (! (− 256)) e, fact≤ (! mv ⊕ ! (pos whole_sample)) (! clipped) l, (reading place).is))
-      far_low (lowered l) e h = absurd (omega (arith, fact at (! (− 256)) e, fact≤ (! clipped ⊕ ! (pos whole_sample)) (! mv) l, (reading place).is))
+      far_low (kept q) e h = absurd (omega (arith, parts_are))
+      far_low (raised l) e h = inr (omega (arith, parts_are))
+      far_low (lowered l) e h = absurd (omega (arith, parts_are))
 
       far_high : Hidden k W x w mv → pos 4 *ℤ pos x +ℤ clipped ≡ last_place W w → 4 * W + 256 + exact ⁻ < exact ⁺ + 4 * w → (side_of k w ≤ 32) ⊎ (4 * W + 260 + exact ⁻ ≤ exact ⁺ + 4 * w)
       far_high (small n) e h = inl n
-      far_high (kept q) e h = absurd (omega (arith, fact at top e, fact (! clipped) (! mv) q, (reading place).is))
-      far_high (raised l) e h = absurd (omega (arith, fact at top e, fact≤ (! mv ⊕ ! (pos whole_sample)) (! clipped) l, (reading place).is))
-      far_high (lowered l) e h = inr (omega (arith, fact at top e, fact≤ (! clipped ⊕ ! (pos whole_sample)) (! mv) l, (reading place).is))
+      far_high (kept q) e h = absurd (omega (arith, parts_are))
+      far_high (raised l) e h = absurd (omega (arith, parts_are))
+      far_high (lowered l) e h = inr (omega (arith, parts_are))
 
-      go : (s t : Bool) → Tested (more place + 256) (0 + less place) s → Tested (more top + less place) (more place + less top) t → pos 4 *ℤ pos x +ℤ clipped ≡ cond s (− 256) (cond t (last_place W w) exact)
+      go : (s t : Bool) → lt_z exact (− 256) ≡ s → lt_z (last_place W w) exact ≡ t → pos 4 *ℤ pos x +ℤ clipped ≡ cond s (− 256) (cond t (last_place W w) exact)
           → tapped k f (cond s (− 256) (cond t (last_place W w) exact)) c ≡ tapped k f exact c
-      go true t (under a) b e = low_at (− 256) (omega arith) low_phase ∙ sym (low exact (omega (arith, (reading place).is)) (far_low hidden e (omega (arith, (reading place).is))))
-      go false true (not_under a) (under b) e = high_at (last_place W w) (omega (arith, (reading top).is)) high_phase ∙ sym (high exact (omega (arith, (reading place).is)) (far_high hidden e (omega (arith, (reading place).is, (reading top).is))))
-      go false false (not_under a) (not_under b) e = refl
+      go true t a b e = low_at (− 256) (omega arith) low_phase ∙ sym (low exact (omega (arith, parts_are)) (far_low hidden e (omega (arith, parts_are))))
+      go false true a b e = high_at (last_place W w) (omega (arith, parts_are)) high_phase ∙ sym (high exact (omega (arith, parts_are)) (far_high hidden e (omega (arith, parts_are))))
+      go false false a b e = refl
 
 -- ---- both stages, over the padded reference picture
 

@@ -8,8 +8,9 @@ use native.Mathlib.Omega.{arith}
 use lib.Dec.{eqb, lit<}
 use lib.IntN.{ℤ, pos, ◌+ℤ◌, ◌*ℤ◌}
 use lib.ListN.{length}
+use Rattle.std.proofs.lemmas.Int.{ints}
 use Rattle.evc_int.specs.Whole.{−◌, ◌⁺}
-use Rattle.evc_int.proofs.Expressions.{ !, ◌⊕◌, ◌⊗◌, solve, fact}
+use Rattle.evc_int.proofs.Expressions.{!, ◌⊕◌, ◌⊗◌, solve, fact}
 use Rattle.evc_int.proofs.Division.{split_only}
 use Rattle.evc_def.specs.declared.EvcBlock.{EvcBlock}
 use Rattle.evc_def.specs.declared.EvcMv.{EvcMv}
@@ -138,7 +139,7 @@ exact_phase : (y : ℕ) (mv : ℤ) → mv ≡ pos 0 → phase_of Y (pos 4 *ℤ p
 unfolding phase_of
 exact_phase y mv e =
     let f = fact (! mv) (! (pos 0)) e in
-    (split_only 4 (pos 4 *ℤ pos y +ℤ mv) (pos y) 0 (lit< tt) (solve (! (pos 4) ⊗ ! (pos y) ⊕ ! mv) (! (pos 4) ⊗ ! (pos y) ⊕ ! (pos 0)) (omega arith))).1
+    (split_only 4 (pos 4 *ℤ pos y +ℤ mv) (pos y) 0 (lit< tt) (omega (arith, ints))).1
 
 pub counterexample : Counterexample
 unfolding clipped_place clip_mv

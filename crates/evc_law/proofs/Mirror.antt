@@ -5,7 +5,8 @@ use Prim.Native.Nat.{ℕ, ◌+◌, ◌*◌, ◌-◌, ◌%◌, ◌≤◌}
 use native.Mathlib.Omega.{arith}
 use lib.Dec.{T}
 use lib.IntN.{ℤ, pos, neg_ℤ, ◌+ℤ◌, ◌-ℤ◌, ◌*ℤ◌}
-use Rattle.evc_int.proofs.Expressions.{ !, ◌⊕◌, ◌⊖◌, ◌⊗◌, solve}
+use Rattle.std.proofs.lemmas.Int.{ints}
+use Rattle.evc_int.proofs.Expressions.{!, ◌⊕◌, ◌⊖◌, ◌⊗◌, solve}
 use Rattle.evc_def.specs.Blocks.{Allowed}
 use Rattle.evc_def.specs.Codes.{first_of, block_checks}
 use Rattle.evc_def.specs.declared.EvcBlock.{EvcBlock}
@@ -47,7 +48,7 @@ module _ (k : PlaneType) (W x w : ℕ) (a : Allowed W x w) where
       ∙ solve (! (pos 4) ⊗ (! (pos W) ⊖ ! (pos w))) (! (pos (phases k)) ⊗ (! (pos (side_of k W)) ⊖ ! (pos (side_of k w)))) (omega (arith, side_phases k W a.size_fours, side_phases k w a.side_fours))
 
   samples_meet : (c c' : ℕ) → c + c' + 1 ≡ side_of k w → free k W w +ℤ pos (c' + c + 1) ≡ pos (side_of k W)
-  samples_meet c c' e = solve (! (pos (side_of k W)) ⊖ ! (pos (side_of k w)) ⊕ ! (pos (c' + c + 1))) (! (pos (side_of k W))) (omega arith)
+  samples_meet c c' e = omega (arith, ints)
 
 -- ---- the mirrored block is accepted
 

@@ -11,10 +11,11 @@ use lib.IntN.{ℤ, pos, ◌+ℤ◌, ◌*ℤ◌}
 use lib.ListN.{length, get_or}
 use lib.Signed.{shr_z}
 use borrow.Author.Tests.{eqb-true, not-false}
+use Rattle.std.proofs.lemmas.Int.{ints}
 use Rattle.evc_int.specs.Whole.{−◌, ◌modulo◌}
 use Rattle.evc_int.proofs.Clipping.{clip3_one}
 use Rattle.evc_int.proofs.Division.{split, split_only}
-use Rattle.evc_int.proofs.Expressions.{ !, ◌⊕◌, ◌⊖◌, ◌⊗◌, neg, solve, fact}
+use Rattle.evc_int.proofs.Expressions.{!, ◌⊕◌, ◌⊖◌, ◌⊗◌, neg, solve, fact}
 use Rattle.evc_def.specs.Blocks.{Allowed}
 use Rattle.evc_def.specs.declared.EvcBlock.{EvcBlock}
 use Rattle.evc_def.specs.declared.EvcMv.{EvcMv}
@@ -42,12 +43,12 @@ aligned_phase Y z q y e h =
     let p = shr_z y 4 in
     let s = fact (! y) (! (pos 4) ⊗ ! p ⊕ ! (pos (y modulo 4))) (split 4 y (lit< tt)) in
     let f = fact (! z) (! (pos 16) ⊗ ! q ⊕ ! y) e in
-    (split_only 4 z (pos 4 *ℤ q +ℤ p) 0 (lit< tt) (solve (! z) (! (pos 4) ⊗ (! (pos 4) ⊗ ! q ⊕ ! p) ⊕ ! (pos 0)) (omega arith))).1
+    (split_only 4 z (pos 4 *ℤ q +ℤ p) 0 (lit< tt) (omega (arith, ints))).1
 aligned_phase UV z q y e h =
     let p = shr_z y 8 in
     let s = fact (! y) (! (pos 8) ⊗ ! p ⊕ ! (pos (y modulo 8))) (split 8 y (lit< tt)) in
     let f = fact (! z) (! (pos 16) ⊗ ! q ⊕ ! y) e in
-    (split_only 8 z (pos 2 *ℤ q +ℤ p) 0 (lit< tt) (solve (! z) (! (pos 8) ⊗ (! (pos 2) ⊗ ! q ⊕ ! p) ⊕ ! (pos 0)) (omega arith))).1
+    (split_only 8 z (pos 2 *ℤ q +ℤ p) 0 (lit< tt) (omega (arith, ints))).1
 
 -- A moved component's place is a multiple of 16; an unmoved one keeps the vector's phase, since the block's place is a multiple of 4. So a vector at phase 0
 -- leaves the clipped place at phase 0.
@@ -60,8 +61,8 @@ module _ (k : PlaneType) (W x w : ℕ) (mv : ℤ) (ok : Allowed W x w) where
       subst (λ (z : ℤ). phase_of k z ≡ 0) (sym (clipped_place_lem W x w mv (omega arith)))
       (clip3_one (− 256) (last_place W w) (pos 4 *ℤ pos x +ℤ mv) (λ (z : ℤ). phase_of k z ≡ 0)
       (aligned_phase k (− 256) (− 16) (pos 0) refl zero_phase)
-      (aligned_phase k (last_place W w) (pos q) (pos 0) (solve (! (pos 4) ⊗ (! (pos W) ⊕ ! (pos margin) ⊖ ! (pos w))) (! (pos 16) ⊗ ! (pos q) ⊕ ! (pos 0)) (omega arith)) zero_phase)
-      (aligned_phase k (pos 4 *ℤ pos x +ℤ mv) (pos (x / 4)) mv (solve (! (pos 4) ⊗ ! (pos x) ⊕ ! mv) (! (pos 16) ⊗ ! (pos (x / 4)) ⊕ ! mv) (omega arith)) h))
+      (aligned_phase k (last_place W w) (pos q) (pos 0) (omega (arith, ints)) zero_phase)
+      (aligned_phase k (pos 4 *ℤ pos x +ℤ mv) (pos (x / 4)) mv (omega (arith, ints)) h))
     where
       none : (k : PlaneType) → phase_of k (pos 0) ≡ 0
       none Y = refl
@@ -83,11 +84,11 @@ start_filtered : (k : PlaneType) (z : ℤ) (c t : ℕ) → pel_of k z +ℤ pos c
 unfolding start_of
 start_filtered k z c t =
     let p = pel_of k z in
-    solve (! p ⊕ ! (pos c) ⊕ neg (! (pos (lead k))) ⊕ ! (pos t)) (! p ⊕ neg (! (pos (lead k))) ⊕ ! (pos (c + t))) (omega arith)
+    omega (arith, ints)
 
 start_whole : (k : PlaneType) (z : ℤ) (c : ℕ) → pel_of k z +ℤ pos c ≡ start_of k false z +ℤ pos c
 unfolding start_of
-start_whole k z c = let p = pel_of k z in solve (! p ⊕ ! (pos c)) (! p ⊕ neg (! (pos 0)) ⊕ ! (pos c)) (omega arith)
+start_whole k z c = omega (arith, ints)
 
 -- a phase's taps are as many as the filter reaches
 tap_within : (k : PlaneType) (z : ℤ) (t : ℕ) → t < length (taps k (phase_of k z)) → t ≤ reach k

@@ -8,6 +8,7 @@ use lib.Dec.{lit<}
 use lib.IntN.{ℤ, pos, ◌+ℤ◌, ◌*ℤ◌}
 use lib.ListN.{length}
 use lib.Signed.{shr_z}
+use Rattle.std.proofs.lemmas.Int.{ints}
 use Rattle.evc_int.specs.Whole.{−◌}
 use Rattle.evc_int.proofs.Expressions.{Ex, !, ◌⊕◌, ◌⊗◌, neg, solve}
 use Rattle.evc_int.proofs.Division.{solve_shr, fact_shr}
@@ -45,8 +46,8 @@ tapped_is UV f place c = refl
 -- ---- phase 0
 
 picks : (k : PlaneType) (f : ℕ → ℤ) → tap_sum (taps k 0) f ≡ pos 64 *ℤ f (lead k)
-picks Y f = solve (tap_ex (taps Y 0) f) (! (pos 64) ⊗ ! (f 2)) (omega arith)
-picks UV f = solve (tap_ex (taps UV 0) f) (! (pos 64) ⊗ ! (f 1)) (omega arith)
+picks Y f = omega (arith, ints)
+picks UV f = omega (arith, ints)
 
 -- the taps of a place at phase 0: the sample there, times 64
 pub tapped_whole : (k : PlaneType) (f : ℤ → ℤ) (place : ℤ) (c : ℕ) → phase_of k place ≡ 0 → tapped k f place c ≡ pos 64 *ℤ f (pel_of k place +ℤ pos c)
@@ -55,7 +56,7 @@ tapped_whole k f place c h =
     tapped_is k f place c
     ∙ ap (λ (q : ℕ). tap_sum (taps k q) (λ (t : ℕ). f (p +ℤ pos c +ℤ − lead k +ℤ pos t))) h
     ∙ picks k (λ (t : ℕ). f (p +ℤ pos c +ℤ − lead k +ℤ pos t))
-    ∙ ap (λ (i : ℤ). pos 64 *ℤ f i) (solve (! p ⊕ ! (pos c) ⊕ neg (! (pos (lead k))) ⊕ ! (pos (lead k))) (! p ⊕ ! (pos c)) (omega arith))
+    ∙ ap (λ (i : ℤ). pos 64 *ℤ f i) (omega (arith, ints))
 
 -- rounding down twice is rounding down once
 twice_down : (s : ℤ) → shr_z (pos 64 *ℤ shr_z s 4 +ℤ pos 512) 1024 ≡ shr_z (s +ℤ pos 32) 64

@@ -5,9 +5,10 @@ use Prim.Native.Nat.{ℕ, ◌+◌, ◌*◌, ◌/◌, ◌%◌, ◌≤◌}
 use native.Mathlib.Omega.{arith}
 use lib.Dec.{T}
 use lib.IntN.{ℤ, pos, ◌+ℤ◌, ◌*ℤ◌}
+use Rattle.std.proofs.lemmas.Int.{ints}
 use Rattle.evc_int.specs.Whole.{−◌}
 use Rattle.evc_int.proofs.Division.{split, split_only, modulo_lt}
-use Rattle.evc_int.proofs.Expressions.{ !, ◌⊕◌, ◌⊗◌, neg, solve, fact}
+use Rattle.evc_int.proofs.Expressions.{!, ◌⊕◌, ◌⊗◌, neg, solve, fact}
 use Rattle.evc_def.specs.Blocks.{is_block_side, bad_block}
 use Rattle.evc_def.specs.Codes.{first_of, block_checks}
 use Rattle.evc_def.specs.declared.EvcBlock.{EvcBlock}
@@ -75,7 +76,7 @@ module _ (k : PlaneType) where
       tapped_is k f p' c
       ∙ ap₂ (λ (n : ℕ) (z : ℤ). tap_sum (taps k n) (λ (t : ℕ). f (z +ℤ pos c +ℤ − lead k +ℤ pos t))) o.1 o.0
       ∙ tap_sum-same (taps k r) _ _
-      (λ t l. ap f (solve (! q ⊕ ! (pos d) ⊕ ! (pos c) ⊕ neg (! (pos (lead k))) ⊕ ! (pos t)) (! q ⊕ ! (pos (d + c)) ⊕ neg (! (pos (lead k))) ⊕ ! (pos t)) (omega arith)))
+      (λ t l. ap f (omega (arith, ints)))
       ∙ sym (tapped_is k f p (d + c))
 
   general_shift : (s : ℤ → ℤ → ℕ) (px px' py py' : ℤ) (d e c r : ℕ) → px' ≡ px +ℤ pos (phases k * d) → py' ≡ py +ℤ pos (phases k * e) → general k s px' py' c r ≡ general k s px py (d + c) (e + r)
@@ -98,7 +99,7 @@ offset_phases UV side false e = refl
 
 quarter_place : (k : PlaneType) (x w : ℕ) (far : Bool) (mv : ℤ) → w % 4 ≡ 0 → pos 4 *ℤ pos (x + cond far (w / 2) 0) +ℤ mv ≡ pos 4 *ℤ pos x +ℤ mv +ℤ pos (phases k * offset k w far)
 quarter_place k x w far mv e =
-    solve (! (pos 4) ⊗ ! (pos (x + cond far (w / 2) 0)) ⊕ ! mv) (! (pos 4) ⊗ ! (pos x) ⊕ ! mv ⊕ ! (pos (phases k * offset k w far))) (omega (arith, offset_phases k w far e))
+    omega (arith, ints, offset_phases k w far e)
 
 -- a list's samples of a quarter at the exact place are those of the block
 pub quarter_list : (b : EvcBlock) (right lower : Bool) → b.w % 4 ≡ 0 → b.h % 4 ≡ 0 → (l : EvcList) (p : Picture) (c : Component) (x y : ℕ)

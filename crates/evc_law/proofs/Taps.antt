@@ -6,8 +6,9 @@ use Prim.Native.Nat.{ℕ, zero, suc, ◌+◌, ◌*◌, ◌-◌}
 use native.Mathlib.Omega.{arith}
 use lib.IntN.{ℤ, pos, ◌+ℤ◌, ◌-ℤ◌, ◌*ℤ◌}
 use lib.ListN.{length, length-reverse}
+use Rattle.std.proofs.lemmas.Int.{ints}
 use Rattle.evc_int.specs.Whole.{−◌}
-use Rattle.evc_int.proofs.Expressions.{ !, ◌⊕◌, ◌⊖◌, ◌⊗◌, neg, solve, fact}
+use Rattle.evc_int.proofs.Expressions.{!, ◌⊕◌, ◌⊖◌, ◌⊗◌, neg, solve, fact}
 use Rattle.evc_int.proofs.Division.{split, split_only, modulo_lt}
 use Rattle.evc_plane.specs.declared.PlaneType.{PlaneType}
 use Rattle.evc_plane.specs.declared.PlaneType.TheVariants.{Y, UV}
@@ -72,7 +73,7 @@ module _ (k : PlaneType) (f g : ℤ → ℤ) (N D : ℤ) (mirror : LineMirrored 
           let o = split_only m p' (D -ℤ w) 0 (some_phase k) (solve (! p') (! (pos m) ⊗ (! D ⊖ ! w) ⊕ ! (pos 0)) (omega arith)) in
           tapped_whole k g p' c' o.1
           ∙ ap (λ (z : ℤ). pos 64 *ℤ g (z +ℤ pos c')) o.0
-          ∙ ap (λ (z : ℤ). pos 64 *ℤ z) (mirror (D -ℤ w +ℤ pos c') (w +ℤ pos c) (solve (! D ⊖ ! w ⊕ ! (pos c') ⊕ (! w ⊕ ! (pos c)) ⊕ ! (pos 1)) (! N) (omega arith)))
+          ∙ ap (λ (z : ℤ). pos 64 *ℤ z) (mirror (D -ℤ w +ℤ pos c') (w +ℤ pos c) (omega (arith, ints)))
           ∙ sym (tapped_whole k f p c e)
       go (suc q) e =
           let r = phase_of k p in

@@ -4,7 +4,7 @@ use Prim.Native.Nat.{ℕ, ◌+◌, ◌-◌, ◌≤◌, ◌<◌, min}
 use native.Mathlib.Omega.{arith}
 use lib.IntN.{ℤ, pos, ◌+ℤ◌}
 use Rattle.evc_int.specs.Whole.{◌⁺}
-use Rattle.evc_int.proofs.Expressions.{ !, ◌⊕◌, fact, part⁺}
+use Rattle.evc_int.proofs.Whole.{parts_are}
 use Rattle.evc_plane.specs.Planes.{reference}
 
 module _ (pic : ℕ → ℕ → ℕ) (pw ph : ℕ) where
@@ -12,8 +12,8 @@ module _ (pic : ℕ → ℕ → ℕ) (pw ph : ℕ) where
   pub reference_stored : (o p x y : ℕ) (i j : ℤ) → i +ℤ pos o ≡ pos x → j +ℤ pos p ≡ pos y → reference pic pw ph i j ≡ pic (min (x - o) (pw - 1)) (min (y - p) (ph - 1))
   unfolding reference
   reference_stored o p x y i j e f =
-      let a : min (i ⁺) (pw - 1) ≡ min (x - o) (pw - 1) = omega (arith, fact (! i ⊕ ! (pos o)) (! (pos x)) e, part⁺ (! i)) in
-      let b : min (j ⁺) (ph - 1) ≡ min (y - p) (ph - 1) = omega (arith, fact (! j ⊕ ! (pos p)) (! (pos y)) f, part⁺ (! j)) in
+      let a : min (i ⁺) (pw - 1) ≡ min (x - o) (pw - 1) = omega (arith, parts_are) in
+      let b : min (j ⁺) (ph - 1) ≡ min (y - p) (ph - 1) = omega (arith, parts_are) in
       ap₂ pic a b
 
   -- pictures that agree, and pictures that are each other's mirror, by sums of positions
@@ -25,9 +25,9 @@ module _ (pic : ℕ → ℕ → ℕ) (pw ph : ℕ) where
     pub reference_left_right : ((i i' j : ℕ) → i + i' + 1 ≡ pw → j < ph → mir i j ≡ pic i' j) → (i i' j : ℤ) → i +ℤ i' +ℤ pos 1 ≡ pos pw → reference mir pw ph i j ≡ reference pic pw ph i' j
     unfolding reference
     reference_left_right h i i' j e =
-        h (min (i ⁺) (pw - 1)) (min (i' ⁺) (pw - 1)) (min (j ⁺) (ph - 1)) (omega (arith, fact (! i ⊕ ! i' ⊕ ! (pos 1)) (! (pos pw)) e, part⁺ (! i), part⁺ (! i'))) (omega arith)
+        h (min (i ⁺) (pw - 1)) (min (i' ⁺) (pw - 1)) (min (j ⁺) (ph - 1)) (omega (arith, parts_are)) (omega arith)
 
     pub reference_top_bottom : ((i j j' : ℕ) → i < pw → j + j' + 1 ≡ ph → mir i j ≡ pic i j') → (i j j' : ℤ) → j +ℤ j' +ℤ pos 1 ≡ pos ph → reference mir pw ph i j ≡ reference pic pw ph i j'
     unfolding reference
     reference_top_bottom h i j j' e =
-        h (min (i ⁺) (pw - 1)) (min (j ⁺) (ph - 1)) (min (j' ⁺) (ph - 1)) (omega arith) (omega (arith, fact (! j ⊕ ! j' ⊕ ! (pos 1)) (! (pos ph)) e, part⁺ (! j), part⁺ (! j')))
+        h (min (i ⁺) (pw - 1)) (min (j ⁺) (ph - 1)) (min (j' ⁺) (ph - 1)) (omega arith) (omega (arith, parts_are))

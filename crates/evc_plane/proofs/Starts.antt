@@ -1,14 +1,12 @@
 -- A clamped start, in one direction, and the window that begins there: it lies in the plane, for every accepted picture and both types. Assumes nothing.
-use mathlib.Core.Bool.{Bool, true, false, cond}
+use mathlib.Core.Bool.{false}
 use mathlib.Core.Path.{◌≡◌}
 use Prim.Native.Nat.{ℕ, ◌+◌, ◌-◌, ◌*◌, ◌≤◌, ◌<◌, min}
 use native.Mathlib.Omega.{arith}
 use native.Mathlib.Nat.{mul-le-mul_right}
 use lib.IntN.{ℤ, pos, ◌+ℤ◌}
-use lib.Signed.{lt_z}
-use Rattle.evc_int.specs.Whole.{−◌, ◌⁺, ◌⁻, clip3}
-use Rattle.evc_int.proofs.Whole.{Tested, under, not_under}
-use Rattle.evc_int.proofs.Expressions.{ !, ◌⊕◌, neg, part⁺, tested_ex}
+use Rattle.evc_int.specs.Whole.{◌⁺, clip3}
+use Rattle.evc_int.proofs.Whole.{parts_are}
 use Rattle.evc_def.specs.Blocks.{bad_picture}
 use Rattle.evc_plane.specs.declared.PlaneType.{PlaneType}
 use Rattle.evc_plane.specs.Planes.{side_of, pad_of, origin_of, stride_of, rows_of, plane_len, config_of, start_at, window_start}
@@ -18,22 +16,12 @@ module _ (origin size : ℕ) (z : ℤ) where
   -- its stored column is at most `size` past the picture's first
   pub start_range : start_at origin size z ≤ origin + size
   unfolding start_at clip3
-  start_range = go (lt_z z (− origin)) (lt_z (pos size) z) (tested_ex (! z) (neg (! (pos origin)))) (tested_ex (! (pos size)) (! z))
-    where
-      go : (a b : Bool) → Tested (z ⁺ + origin) (0 + z ⁻) a → Tested (size + z ⁻) (z ⁺ + 0) b → (cond a (− origin) (cond b (pos size) z) +ℤ pos origin) ⁺ ≤ origin + size
-      go true b (under x) y = omega (arith, part⁺ (neg (! (pos origin)) ⊕ ! (pos origin)))
-      go false true (not_under x) (under y) = omega (arith, part⁺ (! (pos size) ⊕ ! (pos origin)))
-      go false false (not_under x) (not_under y) = omega (arith, part⁺ (! z ⊕ ! (pos origin)))
+  start_range = grind (arith, parts_are)
 
   -- n columns on, the column held to the picture is that of the start before it was clamped
   pub start_column : (n : ℕ) → n ≤ origin → min (start_at origin size z + n - origin) (size - 1) ≡ min ((z +ℤ pos n) ⁺) (size - 1)
   unfolding start_at clip3
-  start_column n h = go (lt_z z (− origin)) (lt_z (pos size) z) (tested_ex (! z) (neg (! (pos origin)))) (tested_ex (! (pos size)) (! z))
-    where
-      go : (a b : Bool) → Tested (z ⁺ + origin) (0 + z ⁻) a → Tested (size + z ⁻) (z ⁺ + 0) b → min ((cond a (− origin) (cond b (pos size) z) +ℤ pos origin) ⁺ + n - origin) (size - 1) ≡ min ((z +ℤ pos n) ⁺) (size - 1)
-      go true b (under x) y = omega (arith, part⁺ (neg (! (pos origin)) ⊕ ! (pos origin)), part⁺ (! z ⊕ ! (pos n)))
-      go false true (not_under x) (under y) = omega (arith, part⁺ (! z ⊕ ! (pos n)))
-      go false false (not_under x) (not_under y) = omega (arith, part⁺ (! z ⊕ ! (pos origin)), part⁺ (! z ⊕ ! (pos n)))
+  start_column n h = grind (arith, parts_are)
 
 module _ (t : PlaneType) (W H : ℕ) (good : bad_picture W H ≡ false) where
   known : Sizes (config_of t W H)
