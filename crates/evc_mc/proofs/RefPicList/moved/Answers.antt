@@ -2,8 +2,10 @@
 use mathlib.Core.Bool.{true, false}
 use mathlib.Core.Path.{◌≡◌}
 use Rattle.evc_def.specs.declared.EvcBlock.{EvcBlock}
-use Rattle.evc_clip.specs.Clip.{moved_mv, nothing_moved}
+use Rattle.evc_clip.specs.Clip.{numbers_of, moved_mv, nothing_moved}
 use Rattle.evc_clip.specs.declared.EvcMoved.{EvcMoved}
+use Rattle.evc_clip.specs.declared.Moved.TheVariants.{No}
+use Rattle.evc_clip.specs.declared.MovedMv.{MovedMv}
 use Rattle.evc_mc.specs.Block.{list_moved}
 use Rattle.evc_mc.specs.declared.EvcList.{EvcList}
 use Rattle.evc_mc.proofs.RefPicList.moved.Goals as goal
@@ -17,8 +19,11 @@ module _ (b : EvcBlock) (l : EvcList) (r : EvcMoved) where
   unfolding list_moved
   used u e = rw u e
 
+nothing : (m : MovedMv) → (m.x ≡ No) × (m.y ≡ No) → numbers_of m ≡ nothing_moved
+nothing m e = rw (e.0, e.1)
+
 pub returns-then-not-self : goal.returns-then-not-self
-returns-then-not-self c = not_used c.args.b.given c.args.self.now.list c.default.result c.if-not-self.true (zeros _ c.default.ensures)
+returns-then-not-self c = not_used c.args.b.given c.args.self.now.list _ c.if-not-self.true (nothing _ c.default.ensures)
 
 pub returns : goal.returns
 returns c = used c.args.b.given c.args.self.now.list _ c.if-not-self.false (simp (c.placed.ensures) at c.moved_mv.ensures)
