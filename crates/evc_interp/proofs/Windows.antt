@@ -17,7 +17,7 @@ use Rattle.evc_int.specs.Whole.{−◌, ◌⁺, ◌⁻, clip3}
 use Rattle.evc_int.specs.Lists.{with_block}
 use Rattle.evc_int.proofs.Bools.{all_true, none_true}
 use Rattle.evc_int.proofs.Whole.{Tested, under, not_under}
-use Rattle.evc_int.proofs.Expressions.{!, ◌⊕◌, neg, part⁺, tested_ex}
+use Rattle.evc_int.proofs.Expressions.{ !, ◌⊕◌, neg, part⁺, tested_ex}
 use Rattle.evc_int.proofs.Division.{modulo_lt}
 use Rattle.evc_int.proofs.Lists.{with_block-ext}
 use Rattle.evc_def.specs.Blocks.{bad_picture}

@@ -12,7 +12,7 @@ ghost use Rattle.evc_mc.specs.Inner.{ListExamined, with_list, block_sample, RowS
 
 use evc_clip::EvcMoved;
 use evc_def::{Block, EvcBlock, EvcMv, MAX_POC, Picture, QpelPlace, Refusal};
-use evc_interp::Window;
+use evc_interp::ExaminedWindow;
 use evc_plane::PlaneType;
 
 // A list of a block: whether it is in use, its vector, and its picture's order count.
@@ -112,14 +112,14 @@ impl RefPicList<'_> {
         let pic = b.picture();
         let w = b.given.w;
         let h = b.given.h;
-        let luma = Window {
+        let luma = ExaminedWindow {
             t: PlaneType::Y,
             pic,
             gmv,
             w,
             h,
         };
-        let chroma = Window {
+        let chroma = ExaminedWindow {
             t: PlaneType::UV,
             pic,
             gmv,
