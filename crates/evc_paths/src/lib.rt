@@ -68,6 +68,7 @@ pub fn copy_row(s: &[u16], n: usize, d: &mut [u16], to: usize)
     }
 }
 
+// By value, since it is built into its caller: lent, the window is read again for each row. What is not built in is lent it.
 pub fn evc_mc_00(window: PlaneSlice, w: usize, h: usize, pred: &mut [u16])
     requires { (window.at + h * window.stride + w ≤ length window.plane.now + window.stride) × (h * w ≤ length pred.old) × (is_row_width w ≡ true) }
     ensures { pred.new ≡ with_block pred.old 0 w w h (λ (y x : ℕ). get_or window.entry.plane.now (window.entry.at + y * window.entry.stride + x) 0) }
