@@ -9,7 +9,7 @@ use mir.Val.{SFits, to_z, of_z}
 use mir.Facts.{to_z-of_z}
 use Rattle.evc_int.specs.Whole.{◌⁺, ◌⁻}
 use Rattle.evc_int.proofs.Whole.{of, nat, is--}
-use Rattle.evc_int.proofs.Expressions.{!, ◌⊕◌, ◌⊖◌, solve, neg}
+use Rattle.evc_int.proofs.Expressions.{ !, ◌⊕◌, ◌⊖◌, solve, neg}
 use Rattle.evc_int.proofs.Machine.{fit}
 use Rattle.evc_filter.specs.Filter.{lead}
 use Rattle.evc_interp.specs.Prediction.{pel_of, start_of}

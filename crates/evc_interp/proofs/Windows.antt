@@ -1,7 +1,7 @@
 -- Every path reads only what was examined: its clamped window lies in that of both directions. Assumes nothing.
 use Rattle.evc_plane.specs.declared.PlaneConfig.{PlaneConfig}
 use Rattle.evc_samples.specs.Samples.{exceeds}
-use mathlib.Core.Bool.{Bool, true, false, cond, not, ◌||◌}
+use mathlib.Core.Bool.{Bool, true, false, cond, ◌||◌}
 use mathlib.Core.List.{List}
 use mathlib.Core.Logic.{⊎_elim}
 use mathlib.Core.Path.{◌≡◌, refl, sym, ap, subst, ◌∙◌}
@@ -17,7 +17,7 @@ use Rattle.evc_int.specs.Whole.{−◌, ◌⁺, ◌⁻, clip3}
 use Rattle.evc_int.specs.Lists.{with_block}
 use Rattle.evc_int.proofs.Bools.{all_true, none_true}
 use Rattle.evc_int.proofs.Whole.{Tested, under, not_under}
-use Rattle.evc_int.proofs.Expressions.{!, ◌⊕◌, neg, part⁺, tested_ex}
+use Rattle.evc_int.proofs.Expressions.{ !, ◌⊕◌, neg, part⁺, tested_ex}
 use Rattle.evc_int.proofs.Division.{modulo_lt}
 use Rattle.evc_int.proofs.Lists.{with_block-ext}
 use Rattle.evc_def.specs.Blocks.{bad_picture}

@@ -55,10 +55,14 @@ fn start(t: PlaneType, path: Path, direction: Direction, z: Qpel) -> Pel
     ensures { result.0 ≡ start_of t (filters path direction) z.0 }
 {
     let at = pel(t, z);
-    if path.filters(direction) { Pel(at.0 - lead(t)) } else { at }
+    if path.filters(direction) {
+        Pel(at.0 - lead(t))
+    } else {
+        at
+    }
 }
 
-fn window_at(t: PlaneType, pic: Picture, path: Path, gmv: QpelPlace) -> usize
+fn window(t: PlaneType, pic: Picture, path: Path, gmv: QpelPlace) -> usize
     ensures { result ≡ window_of t pic.w pic.h (is_across path) (is_down path) gmv }
 {
     let x = start(t, path, Direction::Across, gmv.x);
@@ -104,22 +108,15 @@ pub fn position_of(t: PlaneType, pic: Picture, ori_mv: EvcMv, gmv: QpelPlace) ->
     let path = path_of(t, ori_mv);
     Position {
         stride: evc_plane::plane_config(t, pic).stride,
-        at: window_at(t, pic, path, gmv),
+        at: window(t, pic, path, gmv),
         path,
         dx: phase(t, gmv.x),
         dy: phase(t, gmv.y),
     }
 }
 
-// The block by its path.
-pub fn predict(
-    t: PlaneType,
-    p: &Position,
-    w: usize,
-    h: usize,
-    plane: &[u16],
-    pred: &mut [u16],
-)
+// The block by its path. The position is lent: a copy at each call costs a block of 4 by 4 from two lists 5 % (docs/SPEED.md).
+pub fn predict(t: PlaneType, p: &Position, w: usize, h: usize, plane: &[u16], pred: &mut [u16])
     requires { Readable t p.now w h plane.now × (h * w ≤ length pred.old) }
     ensures { pred.new ≡ with_block pred.old 0 w w h (sample_from t p.now plane.now) }
 {
@@ -129,9 +126,9 @@ pub fn predict(
         at: p.at,
     };
     match p.path {
-        Path::Whole => evc_paths::evc_mc_00(&window, w, h, pred),
+        Path::Whole => evc_paths::evc_mc_00(window, w, h, pred),
         Path::One(direction) => {
-            evc_paths::evc_mc_one(t, &window, direction, w, h, p.phase(direction), pred);
+            evc_paths::evc_mc_one(t, window, direction, w, h, p.phase(direction), pred);
         }
         Path::Both => evc_paths::evc_mc_nn(t, &window, w, h, p.dx, p.dy, pred),
     }
@@ -158,9 +155,9 @@ fn is_side(t: PlaneType, n: u32) -> bool
     }
 }
 
-// The window of a block on both filtered directions, which is examined on every path. The sides are the block's.
+// The window of the path of both directions, which is examined on every path; w and h are the block's.
 #[derive(Clone, Copy)]
-pub struct Window {
+pub struct ExaminedWindow {
     pub t: PlaneType,
     pub pic: Picture,
     pub gmv: QpelPlace,
@@ -170,7 +167,7 @@ pub struct Window {
     pub ghost h_side: { is_side t h ≡ true },
 }
 
-impl Window {
+impl ExaminedWindow {
     pub fn exceeds(self, plane: &[u16]) -> bool
         requires { plane_len self.t self.pic.w self.pic.h ≤ length plane.now }
         ensures { result ≡ window_exceeds self.t self.pic.w self.pic.h self.gmv self.w self.h plane.now }
@@ -179,7 +176,7 @@ impl Window {
         let more = evc_paths::rows_more(self.t);
         evc_samples::window_exceeds(
             plane,
-            window_at(self.t, self.pic, Path::Both, self.gmv),
+            window(self.t, self.pic, Path::Both, self.gmv),
             c.stride,
             self.w as usize + more,
             self.h as usize + more,
@@ -216,8 +213,8 @@ fn mc_plane(
         return Err(Refusal::Buffer);
     }
     let p = position_of(t, pic, ori_mv, gmv);
-    let window = Window { t, pic, gmv, w, h };
-    if window.exceeds(plane) {
+    let examined = ExaminedWindow { t, pic, gmv, w, h };
+    if examined.exceeds(plane) {
         return Err(Refusal::Sample);
     }
     predict(t, &p, w as usize, h as usize, plane, pred);

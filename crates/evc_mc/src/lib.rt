@@ -14,7 +14,7 @@ ghost use Rattle.evc_mc.specs.Inner.{ListExamined, Accepted, with_list, block_sa
 
 use evc_clip::{EvcMoved, MovedMv};
 use evc_def::{Block, EvcBlock, EvcMv, MAX_POC, Picture, QpelPlace, Refusal};
-use evc_interp::Window;
+use evc_interp::ExaminedWindow;
 use evc_pick::PredBlock;
 use evc_plane::PlaneType;
 
@@ -128,14 +128,14 @@ impl RefPicList<'_> {
         let pic = b.picture();
         let w = b.given.w;
         let h = b.given.h;
-        let luma = Window {
+        let luma = ExaminedWindow {
             t: PlaneType::Y,
             pic,
             gmv,
             w,
             h,
         };
-        let chroma = Window {
+        let chroma = ExaminedWindow {
             t: PlaneType::UV,
             pic,
             gmv,

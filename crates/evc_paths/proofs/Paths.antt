@@ -6,7 +6,7 @@ use mathlib.Core.List.{List, [], ◌∷◌}
 use mathlib.Core.Path.{◌≡◌, refl, sym, ap, ap₂, subst, ◌∙◌}
 use native.Mathlib.Nat.{add-mul, mul-le-mul_left, div-add-mod', div-lt_iff_lt-mul, mod-lt}
 use native.Mathlib.Omega.{arith}
-use borrow.Author.Tests.{le-ltb, ltb-true, ltb-false}
+use borrow.Author.Tests.{lt-ltb, le-ltb, ltb-true, ltb-false}
 use lib.Dec.{ltb}
 use lib.ListN.{length, get_or, drop}
 use Rattle.evc_int.specs.Lists.{with_row, with_block}
@@ -150,6 +150,14 @@ lanes n h en ln eh =
   where
     many : (n h : ℕ) → 8 ≤ h * n → h * n % 8 ≡ 0 → (n ≡ 8 → h * n / 8 ≡ h) → Lanes n h
     many n h l d f = let e : lanes_of n h ≡ 8 = ap (λ (t : Bool). cond t 4 8) (le-ltb (h * n) 8 l) in record { four_or_eight = inr e; rows = rw e (omega arith); whole = λ g. (e, rw e (f g)) }
+
+-- of a number that an `if` gives, from its two ways
+pub given : (a b x y r : ℕ) → ((a < b) × (r ≡ x)) ⊎ ((b ≤ a) × (r ≡ y)) → r ≡ cond (ltb a b) x y
+given a b x y r w =
+    ⊎_elim
+    (λ t. t.1 ∙ sym (ap (λ (t : Bool). cond t x y) (lt-ltb a b t.0)))
+    (λ f. f.1 ∙ sym (ap (λ (t : Bool). cond t x y) (le-ltb a b f.0)))
+    w
 
 lanes_wide : {l : ℕ} → (l ≡ 4) ⊎ (l ≡ 8) → (is_row_width l ≡ true) × (l ≤ 8)
 lanes_wide f = ⊎_elim (λ e. rw e (refl, omega arith)) (λ e. rw e (refl, omega arith)) f

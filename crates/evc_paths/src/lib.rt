@@ -68,9 +68,10 @@ pub fn copy_row(s: &[u16], n: usize, d: &mut [u16], to: usize)
     }
 }
 
-pub fn evc_mc_00(window: &PlaneSlice, w: usize, h: usize, pred: &mut [u16])
-    requires { (window.now.at + h * window.now.stride + w ≤ length window.now.plane.now + window.now.stride) × (h * w ≤ length pred.old) × (is_row_width w ≡ true) }
-    ensures { pred.new ≡ with_block pred.old 0 w w h (λ (y x : ℕ). get_or window.now.plane.now (window.now.at + y * window.now.stride + x) 0) }
+// By value, since it is built into its caller: lent, the window is read again for each row. What is not built in is lent it.
+pub fn evc_mc_00(window: PlaneSlice, w: usize, h: usize, pred: &mut [u16])
+    requires { (window.at + h * window.stride + w ≤ length window.plane.now + window.stride) × (h * w ≤ length pred.old) × (is_row_width w ≡ true) }
+    ensures { pred.new ≡ with_block pred.old 0 w w h (λ (y x : ℕ). get_or window.entry.plane.now (window.entry.at + y * window.entry.stride + x) 0) }
 {
     for y in 0..h {
         copy_row(window.row(y), w, pred, y * w);
@@ -95,15 +96,9 @@ pub fn rows_more(t: PlaneType) -> usize
     }
 }
 
-fn select(first: bool, a: usize, b: usize) -> usize
-    ensures { result ≡ cond first a b }
-{
-    if first { a } else { b }
-}
-
 // How far apart the samples under the taps of a direction lie.
-fn step(window: &PlaneSlice, direction: Direction) -> usize
-    ensures { result ≡ step_of direction window.now.stride }
+fn step(window: PlaneSlice, direction: Direction) -> usize
+    ensures { result ≡ step_of direction window.entry.stride }
 {
     match direction {
         Direction::Across => 1,
@@ -114,17 +109,17 @@ fn step(window: &PlaneSlice, direction: Direction) -> usize
 // One direction. By groups of eight columns; a block of 4 or 2 columns is one group.
 pub fn evc_mc_one(
     t: PlaneType,
-    window: &PlaneSlice,
+    window: PlaneSlice,
     direction: Direction,
     w: usize,
     h: usize,
     phase: usize,
     pred: &mut [u16],
 )
-    requires covers { Covers window.now (w + along direction (reach t) 0) (h + along direction 0 (reach t)) }
+    requires covers { Covers window (w + along direction (reach t) 0) (h + along direction 0 (reach t)) }
     requires room { h * w ≤ length pred.old }
-    requires sizes { (is_row_width w ≡ true) × (w ≤ 64) × (0 < h) × (phase < phases t) × (window.now.stride ≤ 65535) }
-    ensures { pred.new ≡ with_block pred.old 0 w w h (λ (y x : ℕ). interpolated t phase window.now.plane.now (window.now.at + y * window.now.stride + x) (step_of direction window.now.stride)) }
+    requires sizes { (is_row_width w ≡ true) × (w ≤ 64) × (0 < h) × (phase < phases t) × (window.stride ≤ 65535) }
+    ensures { pred.new ≡ with_block pred.old 0 w w h (λ (y x : ℕ). interpolated t phase window.entry.plane.now (window.entry.at + y * window.entry.stride + x) (step_of direction window.entry.stride)) }
 {
     let f = evc_filter::filter_of(t, step(window, direction), phase);
     let from = Layout {
@@ -181,9 +176,9 @@ fn columns(
     };
     let between = Layout { at: 0, stride: n };
     evc_blocks::sample_block::<First>(window.plane, from, n, rows, first, m, between, one);
-    let lanes = select(h * n < 8, 4, 8);
+    let lanes = if h * n < 8 { 4 } else { 8 };
     let second = evc_filter::filter_of(t, n, dy);
-    let width = select(n < 8, lanes, w);
+    let width = if n < 8 { lanes } else { w };
     let from = Layout {
         at: 0,
         stride: lanes,

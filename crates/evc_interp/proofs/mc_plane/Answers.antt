@@ -4,7 +4,7 @@ use mathlib.Core.Bool.{Bool, not, ◌&&◌}
 use native.Mathlib.Nat.{mul_comm}
 use native.Mathlib.Omega.{arith}
 use borrow.Author.Tests.{ltb-false}
-use Rattle.evc_int.proofs.Bools.{all_true, none_true}
+use Rattle.evc_int.proofs.Bools.{none_true}
 use Rattle.evc_plane.specs.declared.PlaneType.{PlaneType}
 use Prim.Native.Nat.{ℕ}
 use Rattle.evc_interp.specs.Prediction.{is_side}

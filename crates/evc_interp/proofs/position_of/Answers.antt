@@ -26,4 +26,4 @@ module _ (k : PlaneType) (W H : ℕ) (ori : EvcMv) (gmv : QpelPlace) where
   made S at p i j es e ep ei ej = rw (es, e ∙ start p ep, ep, ei, ej)
 
 pub returns : goal.returns
-returns c = made c.args.t c.args.pic.w c.args.pic.h c.args.ori_mv c.args.gmv _ _ _ _ _ (stride_is _ _ _ _ c.plane_config.ensures) c.window_at.ensures c.path_of-path.ensures c.phase.ensures c.phase-2.ensures
+returns c = made c.args.t c.args.pic.w c.args.pic.h c.args.ori_mv c.args.gmv _ _ _ _ _ (stride_is _ _ _ _ c.plane_config.ensures) c.window.ensures c.path_of-path.ensures c.phase.ensures c.phase-2.ensures

@@ -83,7 +83,7 @@ loop-record-preserved c =
       still_same _ _ _ i.3 c.in-Ok.ensures.same_planes,
       went_on from bytes (records_from rest 0) l.index t _ after z ∙ ap (λ (r : List (List ℕ)). applied from r l.index t) chunk ∙ i.4,
       most_less (2 * l.index + 2) _ _ (omega arith) (subst (AtMost (2 * l.index + 2)) (sym c.with_lists-counts.ensures) (lists_most (2 * l.index) l.counts _ _ i.5)),
-      counted_on from l.counts bytes (records_from rest 0) z _ c.in-Ok.ensures.result_value _ c.with_lists-counts.ensures ∙ ap (λ (r : List (List ℕ)). l.counts plus counts_over from r) chunk ∙ i.6,
+      counted_on from l.counts bytes (records_from rest 0) z _ c.in-Ok.ensures.result_value _ (simp (c.from-moved0.ensures, c.from-moved1.ensures) at c.with_lists-counts.ensures) ∙ ap (λ (r : List (List ℕ)). l.counts plus counts_over from r) chunk ∙ i.6,
     )
 
 pub returns : goal.returns

@@ -1,9 +1,9 @@
--- `evc_interp::window_at` meets its contract. Assumes nothing.
+-- `evc_interp::window` meets its contract. Assumes nothing.
 use mathlib.Core.Path.{ap₂, ◌∙◌}
 use lib.IntN.{ℤ}
 use Rattle.evc_plane.specs.Planes.{window_start}
 use Rattle.evc_interp.specs.Prediction.{window_of}
-use Rattle.evc_interp.proofs.window_at.Goals as goal
+use Rattle.evc_interp.proofs.window.Goals as goal
 
 pub returns : goal.returns
 unfolding window_of
