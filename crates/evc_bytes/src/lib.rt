@@ -24,7 +24,7 @@ pub fn i16_at(s: &[u8], at: usize) -> i16
 }
 
 // Takes numbers from bytes, each behind the one before.
-#[derive(Clone, Copy)]
+#[derive(Drop)]
 pub struct Reader<'a> {
     bytes: &'a [u8],
     at: usize,
