@@ -10,7 +10,7 @@ use lib.IntN.{ℤ, pos, ◌+ℤ◌, ◌*ℤ◌}
 use lib.Signed.{lt_z}
 use Rattle.evc_int.specs.Whole.{−◌, ◌⁺, ◌⁻, clip3}
 use Rattle.evc_int.proofs.Whole.{of, is_eq, is-k*, parts_are, same}
-use Rattle.evc_int.proofs.Expressions.{!, ◌⊕◌, ◌⊗◌, fact}
+use Rattle.evc_int.proofs.Expressions.{ !, ◌⊕◌, ◌⊗◌, fact}
 use Rattle.evc_int.proofs.Division.{split}
 use Rattle.evc_def.specs.Blocks.{Allowed}
 use Rattle.evc_def.specs.declared.EvcBlock.{EvcBlock}
@@ -26,7 +26,7 @@ use Rattle.evc_interp.proofs.Windows.{some_phase, phase_small}
 use Rattle.evc_clip.specs.Clip.{margin, clip_component, clip_mv, clipped_place}
 use Rattle.evc_clip.proofs.Laws.{last_place, clipped_place_lem}
 use Rattle.evc_law.specs.General.{tapped, general₁, general}
-use Rattle.evc_law.specs.Invisible.{exact_place, whole_sample, Hidden, small, kept, raised, lowered}
+use Rattle.evc_law.specs.Invisible.{exact_place, Hidden, small, kept, raised, lowered}
 use Rattle.evc_law.proofs.Phases.{tapped_is, tapped_whole, tapped_same}
 use Rattle.evc_law.proofs.Paths.{aligned_phase}
 

@@ -10,7 +10,7 @@ use lib.IntN.{ℤ, pos, ◌+ℤ◌, ◌*ℤ◌}
 use lib.ListN.{length}
 use Rattle.std.proofs.lemmas.Int.{ints}
 use Rattle.evc_int.specs.Whole.{−◌, ◌⁺}
-use Rattle.evc_int.proofs.Expressions.{!, ◌⊕◌, ◌⊗◌, solve, fact}
+use Rattle.evc_int.proofs.Expressions.{ !, fact}
 use Rattle.evc_int.proofs.Division.{split_only}
 use Rattle.evc_def.specs.declared.EvcBlock.{EvcBlock}
 use Rattle.evc_def.specs.declared.EvcMv.{EvcMv}

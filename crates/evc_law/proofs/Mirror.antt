@@ -6,7 +6,7 @@ use native.Mathlib.Omega.{arith}
 use lib.Dec.{T}
 use lib.IntN.{ℤ, pos, neg_ℤ, ◌+ℤ◌, ◌-ℤ◌, ◌*ℤ◌}
 use Rattle.std.proofs.lemmas.Int.{ints}
-use Rattle.evc_int.proofs.Expressions.{!, ◌⊕◌, ◌⊖◌, ◌⊗◌, solve}
+use Rattle.evc_int.proofs.Expressions.{ !, ◌⊖◌, ◌⊗◌, solve}
 use Rattle.evc_def.specs.Blocks.{Allowed}
 use Rattle.evc_def.specs.Codes.{first_of, block_checks}
 use Rattle.evc_def.specs.declared.EvcBlock.{EvcBlock}

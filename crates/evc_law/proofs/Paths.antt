@@ -15,7 +15,7 @@ use Rattle.std.proofs.lemmas.Int.{ints}
 use Rattle.evc_int.specs.Whole.{−◌, ◌modulo◌}
 use Rattle.evc_int.proofs.Clipping.{clip3_one}
 use Rattle.evc_int.proofs.Division.{split, split_only}
-use Rattle.evc_int.proofs.Expressions.{!, ◌⊕◌, ◌⊖◌, ◌⊗◌, neg, solve, fact}
+use Rattle.evc_int.proofs.Expressions.{ !, ◌⊕◌, ◌⊗◌, fact}
 use Rattle.evc_def.specs.Blocks.{Allowed}
 use Rattle.evc_def.specs.declared.EvcBlock.{EvcBlock}
 use Rattle.evc_def.specs.declared.EvcMv.{EvcMv}

@@ -10,7 +10,7 @@ use lib.ListN.{length}
 use lib.Signed.{shr_z}
 use Rattle.std.proofs.lemmas.Int.{ints}
 use Rattle.evc_int.specs.Whole.{−◌}
-use Rattle.evc_int.proofs.Expressions.{Ex, !, ◌⊕◌, ◌⊗◌, neg, solve}
+use Rattle.evc_int.proofs.Expressions.{Ex, !, ◌⊕◌, ◌⊗◌, solve}
 use Rattle.evc_int.proofs.Division.{solve_shr, fact_shr}
 use Rattle.evc_plane.specs.declared.PlaneType.{PlaneType}
 use Rattle.evc_plane.specs.declared.PlaneType.TheVariants.{Y, UV}

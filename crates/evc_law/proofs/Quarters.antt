@@ -8,7 +8,7 @@ use lib.IntN.{ℤ, pos, ◌+ℤ◌, ◌*ℤ◌}
 use Rattle.std.proofs.lemmas.Int.{ints}
 use Rattle.evc_int.specs.Whole.{−◌}
 use Rattle.evc_int.proofs.Division.{split, split_only, modulo_lt}
-use Rattle.evc_int.proofs.Expressions.{!, ◌⊕◌, ◌⊗◌, neg, solve, fact}
+use Rattle.evc_int.proofs.Expressions.{ !, ◌⊕◌, ◌⊗◌, solve, fact}
 use Rattle.evc_def.specs.Blocks.{is_block_side, bad_block}
 use Rattle.evc_def.specs.Codes.{first_of, block_checks}
 use Rattle.evc_def.specs.declared.EvcBlock.{EvcBlock}
