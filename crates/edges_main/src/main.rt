@@ -2,9 +2,10 @@
 //! on a line is not concerned.
 #![tactic(auto)]
 
+use evc_clip::Clipped;
 use evc_def::{EvcBlock, EvcMv, Picture, Refusal};
-use evc_direct::Pocs;
-use evc_mc::{EvcList, PRED_LEN, RefPicList};
+use evc_direct::{DirectVectors, Pocs};
+use evc_mc::{EvcList, ListsMoved, PRED_LEN, RefPicList};
 use evc_motion::EvcCandidates;
 use evc_plane::PlaneType;
 use std::alloc::{AllocError, Global};
@@ -19,44 +20,39 @@ const UNITS: usize = 2032;
 
 const MOTION_LEN: usize = 8128;
 
-// ---- the number that each call returns
+// ---- what each call gives
 
-fn number<T: Drop>(answer: Result<T, Refusal>) -> u32 {
-    evc_def::code(answer.map(|_| ()))
+fn flags(b: EvcBlock) -> Result<u16, Refusal> {
+    evc_avail::get_avail_inter(b, &[0; UNITS])
 }
 
-fn flags(b: EvcBlock) -> u32 {
-    number(evc_avail::get_avail_inter(b, &[0; UNITS]))
-}
-
-fn candidates(b: EvcBlock) -> u32 {
+fn candidates(b: EvcBlock) -> Result<EvcCandidates, Refusal> {
     let map = [0; MOTION_LEN];
-    let old = EvcCandidates::default();
-    number(evc_motion::get_motion(b, 0, 0, &map, Some(&map), old))
+    evc_motion::get_motion(b, 0, 0, &map, Some(&map), EvcCandidates::default())
 }
 
-fn direct(b: EvcBlock, poc: u32) -> u32 {
+fn direct(b: EvcBlock, poc: u32) -> Result<DirectVectors, Refusal> {
     let pocs = Pocs {
         poc,
         poc0: 0,
         poc1: 2,
         list_poc0: 1,
     };
-    number(evc_direct::get_mv_dir(b, pocs, Some(&[0; MOTION_LEN])))
+    evc_direct::get_mv_dir(b, pocs, Some(&[0; MOTION_LEN]))
 }
 
-fn clipping(b: EvcBlock) -> u32 {
-    number(evc_clip::mv_clip(b, EvcMv::default()))
+fn clipping(b: EvcBlock) -> Result<Clipped, Refusal> {
+    evc_clip::mv_clip(b, EvcMv::default())
 }
 
-fn padding(t: PlaneType, b: EvcBlock, plane: &mut [u16]) -> u32 {
-    number(evc_pad::pad(t, b.pic_w, b.pic_h, plane))
+fn padding(t: PlaneType, b: EvcBlock, plane: &mut [u16]) -> Result<(), Refusal> {
+    evc_pad::pad(t, b.pic_w, b.pic_h, plane)
 }
 
-fn one_plane(t: PlaneType, b: EvcBlock, w: u32, h: u32, plane: &[u16]) -> u32 {
+fn one_plane(t: PlaneType, b: EvcBlock, w: u32, h: u32, plane: &[u16]) -> Result<(), Refusal> {
     let mut pred = [0; PRED_LEN];
     let mv = EvcMv::default();
-    number(evc_interp::evc_mc_plane(t, b.pic_w, b.pic_h, mv, mv, w, h, plane, &mut pred))
+    evc_interp::evc_mc_plane(t, b.pic_w, b.pic_h, mv, mv, w, h, plane, &mut pred)
 }
 
 fn list_of(poc: u32) -> EvcList {
@@ -67,8 +63,8 @@ fn list_of(poc: u32) -> EvcList {
     }
 }
 
-// From two lists with the same planes.
-fn block(b: EvcBlock, poc: u32, luma: &[u16], chroma: &[u16]) -> u32 {
+// From two lists with the same planes. invisible_main has such a call too, with one list in use and a sample for its answer: what they share is the call.
+fn block(b: EvcBlock, poc: u32, luma: &[u16], chroma: &[u16]) -> Result<ListsMoved, Refusal> {
     let mut pred0 = [0; PRED_LEN];
     let mut pred1 = [0; PRED_LEN];
     let planes = evc_mc::Planes {
@@ -84,18 +80,23 @@ fn block(b: EvcBlock, poc: u32, luma: &[u16], chroma: &[u16]) -> u32 {
         list: list_of(poc),
         planes,
     };
-    number(evc_mc::evc_mc2(b, &l0, &l1, &mut pred0, &mut pred1))
+    evc_mc::evc_mc2(b, &l0, &l1, &mut pred0, &mut pred1)
 }
 
 // ---- what is printed
 
+// The number that a call returns.
+fn number<T: Drop>(answer: Result<T, Refusal>) -> u32 {
+    evc_def::code(answer.map(|_| ()))
+}
+
 fn print_vectors(rt: &impl Print, b: EvcBlock) -> io::Result<()> {
     print!(rt;
         " flags {}, candidates {}, direct vectors {}, clipping {}",
-        flags(b),
-        candidates(b),
-        direct(b, 0),
-        clipping(b)
+        number(flags(b)),
+        number(candidates(b)),
+        number(direct(b, 0)),
+        number(clipping(b))
     )
 }
 
@@ -115,15 +116,15 @@ impl Planes {
     }
 
     fn print_padding(&mut self, rt: &impl Print, b: EvcBlock) -> io::Result<()> {
-        let luma = padding(PlaneType::Y, b, &mut self.luma);
-        let chroma = padding(PlaneType::UV, b, &mut self.chroma);
+        let luma = number(padding(PlaneType::Y, b, &mut self.luma));
+        let chroma = number(padding(PlaneType::UV, b, &mut self.chroma));
         print!(rt; " padding luma {luma}, padding chroma {chroma}")
     }
 
     fn print_prediction(&self, rt: &impl Print, b: EvcBlock) -> io::Result<()> {
-        let luma = one_plane(PlaneType::Y, b, b.w, b.h, &self.luma);
-        let chroma = one_plane(PlaneType::UV, b, b.w / 2, b.h / 2, &self.chroma);
-        let block = block(b, 0, &self.luma, &self.chroma);
+        let luma = number(one_plane(PlaneType::Y, b, b.w, b.h, &self.luma));
+        let chroma = number(one_plane(PlaneType::UV, b, b.w / 2, b.h / 2, &self.chroma));
+        let block = number(block(b, 0, &self.luma, &self.chroma));
         println!(rt; ", luma plane {luma}, chroma plane {chroma}, block {block}")
     }
 }
@@ -171,10 +172,10 @@ impl Planes {
 
     fn count_line(&self, rt: &impl Print, poc: u32) -> io::Result<()> {
         let b = square(128, 128, 8);
-        let block = block(b, poc, &self.luma, &self.chroma);
+        let block = number(block(b, poc, &self.luma, &self.chroma));
         println!(rt;
             "count {poc}: direct vectors {}, block {block}",
-            direct(b, poc)
+            number(direct(b, poc))
         )
     }
 
@@ -190,18 +191,19 @@ impl Planes {
 }
 
 fn lines(rt: &impl Print, planes: &mut Planes) -> io::Result<()> {
-    [8128, 8132]
-        .iter()
-        .try_for_each(|pic_w| planes.width_line(rt, *pic_w))?;
-    [64, 12, 128]
-        .iter()
-        .try_for_each(|side| planes.side_line(rt, *side))?;
-    [32767, 32768]
-        .iter()
-        .try_for_each(|poc| planes.count_line(rt, *poc))?;
-    [1023, 1024]
-        .iter()
-        .try_for_each(|sample| planes.sample_line(rt, *sample))
+    for pic_w in [8128, 8132] {
+        planes.width_line(rt, pic_w)?;
+    }
+    for side in [64, 12, 128] {
+        planes.side_line(rt, side)?;
+    }
+    for poc in [32767, 32768] {
+        planes.count_line(rt, poc)?;
+    }
+    for sample in [1023, 1024] {
+        planes.sample_line(rt, sample)?;
+    }
+    Ok(())
 }
 
 fn main(rt: HostRuntime) -> io::Result<()> {

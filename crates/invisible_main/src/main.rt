@@ -35,7 +35,7 @@ fn list_of(used: bool, mv: EvcMv) -> EvcList {
     EvcList { used, mv, poc: 0 }
 }
 
-// List 0 alone is in use.
+// List 0 alone is in use. edges_main has such a call too, with two lists and a number for its answer: what they share is the call.
 fn block(b: EvcBlock, mv: EvcMv, at: usize, luma: &[u16], chroma: &[u16]) -> u16 {
     let mut pred0 = [OLD; PRED_LEN];
     let mut pred1 = [OLD; PRED_LEN];

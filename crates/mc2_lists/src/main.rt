@@ -55,8 +55,24 @@ impl From<[u8; 32]> for PicturesRecord {
 
 impl From<[u8; 32]> for Call {
     fn from(bytes: [u8; 32]) -> Call {
-        let [x, y, w, h, used, x0, y0, poc0, x1, y1, poc1, len0, len1, seed0, seed1, _] =
-            evc_lists::numbers::<16>(&bytes);
+        let [
+            x,
+            y,
+            w,
+            h,
+            used,
+            x0,
+            y0,
+            poc0,
+            x1,
+            y1,
+            poc1,
+            len0,
+            len1,
+            seed0,
+            seed1,
+            _,
+        ] = evc_lists::numbers::<16>(&bytes);
         Call {
             x: number32(x),
             y: number32(y),
@@ -168,11 +184,16 @@ impl PicturesRecord {
     fn run<R: Read, W: Write>(&self, alloc: Global, input: &mut R, out: &mut W) -> io::Result<()> {
         let ref0 = self.pictures.picture(alloc, RefList::List0)?;
         let ref1 = self.pictures.picture(alloc, RefList::List1)?;
-        evc_lists::for_each_record(alloc, input, usize::from(self.calls), |_, bytes: [u8; 32]| {
-            let call = Call::from(bytes);
-            let answer = call.answer(alloc, call.block(&self.pictures), &ref0, &ref1)?;
-            evc_lists::print_line(out, answer)
-        })
+        evc_lists::for_each_record(
+            alloc,
+            input,
+            usize::from(self.calls),
+            |_, bytes: [u8; 32]| {
+                let call = Call::from(bytes);
+                let answer = call.answer(alloc, call.block(&self.pictures), &ref0, &ref1)?;
+                evc_lists::print_line(out, answer)
+            },
+        )
     }
 }
 

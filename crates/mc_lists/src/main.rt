@@ -46,8 +46,17 @@ struct Answer {
 
 impl From<[u8; 18]> for PlaneRecord {
     fn from(bytes: [u8; 18]) -> PlaneRecord {
-        let [plane_type, pic_w, pic_h, plane_len, seed, limit, is_padded, calls, form] =
-            evc_lists::numbers::<9>(&bytes);
+        let [
+            plane_type,
+            pic_w,
+            pic_h,
+            plane_len,
+            seed,
+            limit,
+            is_padded,
+            calls,
+            form,
+        ] = evc_lists::numbers::<9>(&bytes);
         PlaneRecord {
             plane_type: evc_lists::plane_type(plane_type),
             pic_w,
@@ -142,9 +151,12 @@ impl PlaneRecord {
     fn run<R: Read, W: Write>(&self, alloc: Global, input: &mut R, out: &mut W) -> io::Result<()> {
         let mut plane = self.samples(alloc)?;
         self.pad(&mut plane);
-        evc_lists::for_each_record(alloc, input, usize::from(self.calls), |_, bytes: [u8; 16]| {
-            self.run_call(alloc, out, &plane, &Call::from(bytes))
-        })
+        evc_lists::for_each_record(
+            alloc,
+            input,
+            usize::from(self.calls),
+            |_, bytes: [u8; 16]| { self.run_call(alloc, out, &plane, &Call::from(bytes)) },
+        )
     }
 }
 

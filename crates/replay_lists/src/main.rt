@@ -76,8 +76,17 @@ impl Record for Call {
         let Some(bytes) = evc_lists::read_array::<R, 48>(input)? else {
             return Ok(None)
         };
-        let [seed, y_len, u_len, v_len, has_map, map_len, map_seed, span, asked] =
-            evc_lists::numbers::<9>(&bytes[2 * 15..]);
+        let [
+            seed,
+            y_len,
+            u_len,
+            v_len,
+            has_map,
+            map_len,
+            map_seed,
+            span,
+            asked,
+        ] = evc_lists::numbers::<9>(&bytes[2 * 15..]);
         let Some(trace) = evc_lists::read_lent(alloc, input, asked, MAX_TRACE_LEN)? else {
             return Ok(None)
         };

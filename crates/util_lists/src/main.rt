@@ -135,8 +135,9 @@ fn old_of(made: Sequence) -> EvcCandidates {
 
 impl CandidatesCall {
     fn new(alloc: Global, bytes: &[u8; RECORD_LEN]) -> Result<CandidatesCall, AllocError> {
-        let [has_col, col_len, seed, step, lidx, avail, map_len, _, _] =
-            evc_lists::numbers::<9>(&bytes[2 * 7..]);
+        let [has_col, col_len, seed, step, lidx, avail, map_len, _, _] = evc_lists::numbers::<9>(
+            &bytes[2 * 7..],
+        );
         let made = Sequence { seed, step };
         Ok(CandidatesCall {
             block: evc_lists::block(evc_lists::numbers(&bytes[2..])),
@@ -191,8 +192,9 @@ struct Direct(EvcDirect);
 
 impl DirectCall {
     fn new(alloc: Global, bytes: &[u8; RECORD_LEN]) -> Result<DirectCall, AllocError> {
-        let [has_col, col_len, seed, step, poc, poc0, poc1, list_poc0, _] =
-            evc_lists::numbers::<9>(&bytes[2 * 7..]);
+        let [has_col, col_len, seed, step, poc, poc0, poc1, list_poc0, _] = evc_lists::numbers::<9>(
+            &bytes[2 * 7..],
+        );
         let made = Sequence { seed, step };
         Ok(DirectCall {
             block: evc_lists::block(evc_lists::numbers(&bytes[2..])),
@@ -249,7 +251,10 @@ impl Call {
 fn main(rt: HostRuntime) -> io::Result<()> {
     let alloc = rt.alloc();
     let mut out = io::writer(&rt);
-    evc_lists::for_each_record(alloc, &mut rt.reader(), MAX_RECORDS, |_, bytes: [u8; RECORD_LEN]| {
-        Call::new(alloc, &bytes)?.run(&mut out)
-    })
+    evc_lists::for_each_record(
+        alloc,
+        &mut rt.reader(),
+        MAX_RECORDS,
+        |_, bytes: [u8; RECORD_LEN]| { Call::new(alloc, &bytes)?.run(&mut out) },
+    )
 }
