@@ -98,7 +98,7 @@ impl UnitMaps<'_> {
     }
 
     // The sums over the units before `from` become those over the units before `to`; `all` if those between are known to count. Two
-    // functions in place of `all` take up to 1.28 times the time.
+    // loops in place of `all` take 1.11 to 1.29 times the time.
     fn add_units(&self, s: Sums, from: usize, to: usize, all: bool) -> Sums
         requires from_le_to { (from ≤ to) × (to ≤ self.now.units) }
         requires s_value { (s ≡ sums_of self.now.map_mv.now self.now.map_scu.now from) × Within s from × (all ≡ true → AllCounted self.now.map_scu.now from to) }
