@@ -63,8 +63,8 @@ fn add_mv(s: Sums, counted: bool, mv: EvcMv) -> Sums
 }
 
 // Units that are first asked together whether all of them count: their vectors are then added without a look at each word. The
-// loops go by index: of slices side by side, `chunks` take 2.0 to 3.0 times the time, arrays by `as_chunks` up to 1.12 (docs/SPEED.md,
-// 'Camera movement').
+// loops go by index: slices side by side take 2.0 to 3.0 times the time by `chunks`, and up to 1.12 as arrays by `as_chunks`
+// (docs/SPEED.md, 'Camera movement').
 const RUN: usize = 16;
 
 // The maps of a picture of so many units.
