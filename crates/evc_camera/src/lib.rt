@@ -63,8 +63,8 @@ fn add_mv(s: Sums, counted: bool, mv: EvcMv) -> Sums
 }
 
 // Units that are first asked together whether all of them count: their vectors are then added without a look at each word. The
-// loops go by index: of slices side by side, `chunks` take 2.0 to 3.0 times the time, arrays by `as_chunks` up to 1.12 (docs/SPEED.md,
-// 'Camera movement').
+// loops go by index: slices side by side take 2.0 to 3.0 times the time by `chunks`, and up to 1.12 as arrays by `as_chunks`
+// (docs/SPEED.md, 'Camera movement').
 const RUN: usize = 16;
 
 // The maps of a picture of so many units.
@@ -98,7 +98,7 @@ impl UnitMaps<'_> {
     }
 
     // The sums over the units before `from` become those over the units before `to`; `all` if those between are known to count. Two
-    // functions in place of `all` take up to 1.28 times the time.
+    // loops in place of `all` take 1.11 to 1.29 times the time.
     fn add_units(&self, s: Sums, from: usize, to: usize, all: bool) -> Sums
         requires from_le_to { (from ≤ to) × (to ≤ self.now.units) }
         requires s_value { (s ≡ sums_of self.now.map_mv.now self.now.map_scu.now from) × Within s from × (all ≡ true → AllCounted self.now.map_scu.now from to) }

@@ -1,6 +1,6 @@
 -- Document 01, 'Candidates'.
 use Rattle.std.specs.Prelude.{Bool, cond, ◌&&◌, ◌||◌, List, [], ◌∷◌, ◌++◌, ℕ, ◌+◌, ◌-◌, ltb, eqb, ℤ, pos, length, Result, Ok, Err}
-use Rattle.evc_def.specs.Codes.{Check, ◌when◌, first_of, block_checks}
+use Rattle.evc_def.specs.Codes.{Check, ◌when◌, first_of, block_checks, zero_mv}
 use Rattle.evc_def.specs.Tables.{is_bit}
 use Rattle.evc_def.specs.declared.EvcBlock.{EvcBlock}
 use Rattle.evc_def.specs.declared.EvcMv.{EvcMv}
@@ -54,3 +54,7 @@ get_motion b lidx avail map has_col col old =
 abbrev pub motion_of : EvcCandidates → Result EvcCandidates Refusal → Motion
 motion_of old (Ok cand) = record { code = 0; cand = cand }
 motion_of old (Err r) = record { code = number_of r; cand = old }
+
+-- a record of zeros
+abbrev pub zero_candidates : EvcCandidates
+zero_candidates = record { left = zero_mv; up = zero_mv; up_right = zero_mv; collocated = zero_mv; refi = pos 0 ∷ pos 0 ∷ pos 0 ∷ pos 0 ∷ [] }
