@@ -42,7 +42,7 @@ module _ (b : EvcBlock) (l : RefPicList) where
 -- ---- both
 
 module _ (b : EvcBlock) (l m : EvcList) where
-  not_both : (l.used && m.used) ≡ false → is_bi b l m ≡ false
+  pub not_both : (l.used && m.used) ≡ false → is_bi b l m ≡ false
   unfolding is_bi
   not_both e = and_left (l.used && m.used) _ e
 

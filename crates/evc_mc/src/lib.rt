@@ -7,9 +7,9 @@ ghost use Rattle.evc_def.specs.Refusals.{code_of};
 ghost use Rattle.evc_clip.specs.Clip.{numbers_of, clipped_place};
 ghost use Rattle.evc_pick.specs.Inner.{by_block};
 ghost use Rattle.evc_pick.specs.declared.PredBlock.TheVariants.{First, Second};
-ghost use Rattle.evc_mc.specs.Block.{Component, with_samples, list_sample, first_sample, is_bi, average, pred_len};
+ghost use Rattle.evc_mc.specs.Block.{Component, ref_pic_list, with_samples, list_sample, first_sample, is_bi, average, pred_len};
 ghost use Rattle.evc_mc.specs.Block.{planes_short, list_short, poc_exceeds, list_exceeds, mc2_code, list_moved, answer_of, mc2_answer, mc2_first, mc2_second};
-ghost use Rattle.evc_mc.specs.Lent.{list_of};
+ghost use Rattle.evc_mc.specs.Lent.{list_of, lent_list, in_use};
 ghost use Rattle.evc_mc.specs.Inner.{ListExamined, Accepted, with_list, block_sample, RowSmall, BlockSmall};
 
 use evc_clip::{EvcMoved, MovedMv};
@@ -18,26 +18,13 @@ use evc_interp::ExaminedWindow;
 use evc_pick::PredBlock;
 use evc_plane::PlaneType;
 
-// A list of a block: whether it is in use, its vector, and its picture's order count.
+// A list of a block as a call takes it: whether it is in use, its vector, and its picture's order count.
 #[repr(C)]
 #[derive(Clone, Copy)]
 pub struct EvcList {
     pub used: bool,
     pub mv: EvcMv,
     pub poc: u32,
-}
-
-impl EvcList {
-    // The block that list 0 leaves empty: the second prediction goes there.
-    fn leaves_empty(self) -> PredBlock
-        ensures { result ≡ cond self.used Second First }
-    {
-        if self.used {
-            PredBlock::Second
-        } else {
-            PredBlock::First
-        }
-    }
 }
 
 // What clipping did to each list's vector.
@@ -95,39 +82,61 @@ impl Planes<'_> {
     }
 }
 
-// A list and the picture that it refers to. It is lent: a copy for each call that is not built in costs a block some 20 ns.
+// A list in use: its vector, the order count and the planes of its picture. It is lent: a copy for each call that is not built in
+// costs a block some 20 ns.
 #[derive(Clone, Copy)]
 pub struct RefPicList<'a> {
-    pub list: EvcList,
+    pub mv: EvcMv,
+    pub poc: u32,
     pub planes: Planes<'a>,
 }
 
-impl RefPicList<'_> {
-    #[tactic(auto, unfolding(crate::specs::Block::list_short))]
-    fn is_short(&self, b: Block) -> bool
-        ensures { result ≡ list_short b.given (list_of self.now) }
+impl EvcList {
+    pub fn with_planes(self, planes: Planes) -> Option<RefPicList>
+        ensures { list_of result ≡ in_use (ref_pic_list self planes.entry.y.now planes.entry.u.now planes.entry.v.now) }
     {
-        self.list.used & self.planes.are_short(b.picture())
+        self.used.then_some(RefPicList {
+            mv: self.mv,
+            poc: self.poc,
+            planes,
+        })
+    }
+}
+
+// A list of a block, and the clipped place that its vector leads to; of a list that is not in use, the block's own.
+#[derive(Clone, Copy)]
+struct BlockList<'a> {
+    block: Block,
+    list: Option<&'a RefPicList<'a>>,
+    gmv: QpelPlace,
+    ghost clipped: { gmv ≡ clipped_place block.given (lent_list list).list.mv },
+}
+
+impl BlockList<'_> {
+    #[tactic(auto, unfolding(crate::specs::Block::list_short))]
+    fn is_short(&self) -> bool
+        ensures { result ≡ list_short self.now.block.given (lent_list self.now.list) }
+    {
+        let pic = self.block.picture();
+        self.list.is_some_and(|l| l.planes.are_short(pic))
     }
 
     fn poc_exceeds(&self) -> bool
-        ensures { result ≡ poc_exceeds self.now.list }
+        ensures { result ≡ poc_exceeds (lent_list self.now.list).list }
     {
-        self.list.used & (MAX_POC < self.list.poc)
+        self.list.is_some_and(|l| MAX_POC < l.poc)
     }
 
-    fn exceeds(&self, b: Block, gmv: QpelPlace) -> bool
-        requires gmv_value { gmv ≡ clipped_place b.given self.now.list.mv }
-        requires long_enough { list_short b.given (list_of self.now) ≡ false }
-        ensures { result ≡ list_exceeds b.given (list_of self.now) }
+    fn exceeds(&self) -> bool
+        requires { list_short self.now.block.given (lent_list self.now.list) ≡ false }
+        ensures { result ≡ list_exceeds self.now.block.given (lent_list self.now.list) }
     {
-        if !self.list.used {
-            return false;
-        }
-        let Planes { y, u, v } = self.planes;
-        let pic = b.picture();
-        let w = b.given.w;
-        let h = b.given.h;
+        let Some(l) = self.list else { return false };
+        let Planes { y, u, v } = l.planes;
+        let pic = self.block.picture();
+        let w = self.block.given.w;
+        let h = self.block.given.h;
+        let gmv = self.gmv;
         let luma = ExaminedWindow {
             t: PlaneType::Y,
             pic,
@@ -145,33 +154,33 @@ impl RefPicList<'_> {
         luma.exceeds(y) | chroma.exceeds(u) | chroma.exceeds(v)
     }
 
-    // The three planes, if the list is in use, to the block that is picked.
-    fn predict(
-        &self,
-        b: Block,
-        gmv: QpelPlace,
-        pred0: &mut [u16],
-        pred1: &mut [u16],
-        block: PredBlock,
-    )
-        requires gmv_value { gmv ≡ clipped_place b.given self.now.list.mv }
-        requires list_examined { ListExamined b.given gmv (list_of self.now) }
-        requires pred_len_in_bounds { (pred_len ≤ length pred0.old) × (pred_len ≤ length pred1.old) }
-        ensures pred0_after { pred0.new ≡ by_block block (with_list b.given (list_of self.now) pred0.old) pred0.old }
-        ensures pred1_after { pred1.new ≡ by_block block pred1.old (with_list b.given (list_of self.now) pred1.old) }
+    // The block that is empty where this is list 0: the second prediction goes there.
+    fn leaves_empty(&self) -> PredBlock
+        ensures { result ≡ cond (lent_list self.now.list).list.used Second First }
     {
-        if !self.list.used {
-            return;
+        match self.list {
+            Some(_) => PredBlock::Second,
+            None => PredBlock::First,
         }
-        let Planes { y, u, v } = self.planes;
-        let pic = b.picture();
-        let w = b.given.w as usize;
-        let h = b.given.h as usize;
-        let luma = evc_interp::position_of(PlaneType::Y, pic, self.list.mv, gmv);
-        let chroma = evc_interp::position_of(PlaneType::UV, pic, self.list.mv, gmv);
+    }
+
+    // The three planes, if the list is in use, to the block that is picked.
+    fn predict(&self, pred0: &mut [u16], pred1: &mut [u16], to: PredBlock)
+        requires list_examined { ListExamined self.now.block.given self.now.gmv (lent_list self.now.list) }
+        requires pred_len_in_bounds { (pred_len ≤ length pred0.old) × (pred_len ≤ length pred1.old) }
+        ensures pred0_after { pred0.new ≡ by_block to (with_list self.now.block.given (lent_list self.now.list) pred0.old) pred0.old }
+        ensures pred1_after { pred1.new ≡ by_block to pred1.old (with_list self.now.block.given (lent_list self.now.list) pred1.old) }
+    {
+        let Some(l) = self.list else { return };
+        let Planes { y, u, v } = l.planes;
+        let pic = self.block.picture();
+        let w = self.block.given.w as usize;
+        let h = self.block.given.h as usize;
+        let luma = evc_interp::position_of(PlaneType::Y, pic, l.mv, self.gmv);
+        let chroma = evc_interp::position_of(PlaneType::UV, pic, l.mv, self.gmv);
         let offset_u = evc_def::cu_dim_offset(1);
         let offset_v = evc_def::cu_dim_offset(2);
-        evc_pick::predict_component(PlaneType::Y, &luma, w, h, y, pred0, pred1, block, 0);
+        evc_pick::predict_component(PlaneType::Y, &luma, w, h, y, pred0, pred1, to, 0);
         evc_pick::predict_component(
             PlaneType::UV,
             &chroma,
@@ -180,7 +189,7 @@ impl RefPicList<'_> {
             u,
             pred0,
             pred1,
-            block,
+            to,
             offset_u,
         );
         evc_pick::predict_component(
@@ -191,47 +200,51 @@ impl RefPicList<'_> {
             v,
             pred0,
             pred1,
-            block,
+            to,
             offset_v,
         );
     }
 
     // A list that is not in use has no report.
     #[tactic(auto, unfolding(crate::specs::Block::list_moved))]
-    fn moved(&self, b: Block) -> MovedMv
-        ensures { numbers_of result ≡ list_moved b.given self.now.list }
+    fn moved(&self) -> MovedMv
+        ensures { numbers_of result ≡ list_moved self.now.block.given (lent_list self.now.list).list }
     {
-        if !self.list.used {
-            return MovedMv::default();
+        match self.list {
+            Some(l) => evc_clip::moved_mv(self.block.placed(), l.mv),
+            None => MovedMv::default(),
         }
-        evc_clip::moved_mv(b.placed(), self.list.mv)
+    }
+}
+
+fn block_list<'a>(b: Block, list: Option<&'a RefPicList<'a>>) -> BlockList<'a>
+    ensures { (result.block.given ≡ b.given) × (result.list ≡ list.entry) }
+{
+    let mv = list.map_or(EvcMv::default(), |l| l.mv);
+    let gmv = evc_clip::clipped_place(b.placed(), mv);
+    BlockList {
+        block: b,
+        list,
+        gmv,
     }
 }
 
 // 3 to 6, of a block that is allowed.
 #[tactic(auto, using(crate::proofs::Checks::code_is), unfolding(evc_def::specs::Codes::first_of))]
-fn check_lists(
-    b: Block,
-    l0: &RefPicList,
-    gmv0: QpelPlace,
-    l1: &RefPicList,
-    gmv1: QpelPlace,
-    pred0: &[u16],
-    pred1: &[u16],
-) -> Result<(), Refusal>
-    requires { (gmv0 ≡ clipped_place b.given l0.now.list.mv) × (gmv1 ≡ clipped_place b.given l1.now.list.mv) }
-    ensures { code_of result ≡ mc2_code b.given (list_of l0.now) (list_of l1.now) pred0.now pred1.now }
+fn check_lists(l0: &BlockList, l1: &BlockList, pred0: &[u16], pred1: &[u16]) -> Result<(), Refusal>
+    requires same_block { l0.now.block.given ≡ l1.now.block.given }
+    ensures { code_of result ≡ mc2_code l0.now.block.given (lent_list l0.now.list) (lent_list l1.now.list) pred0.now pred1.now }
 {
-    if !(l0.list.used | l1.list.used) {
+    if l0.list.is_none() & l1.list.is_none() {
         return Err(Refusal::List);
     }
-    if l0.is_short(b) | l1.is_short(b) | (pred0.len() < PRED_LEN) | (pred1.len() < PRED_LEN) {
+    if l0.is_short() | l1.is_short() | (pred0.len() < PRED_LEN) | (pred1.len() < PRED_LEN) {
         return Err(Refusal::Buffer);
     }
     if l0.poc_exceeds() | l1.poc_exceeds() {
         return Err(Refusal::OrderCount);
     }
-    if l0.exceeds(b, gmv0) | l1.exceeds(b, gmv1) {
+    if l0.exceeds() | l1.exceeds() {
         return Err(Refusal::Sample);
     }
     Ok(())
@@ -270,61 +283,57 @@ fn average_block(b: Block, pred0: &mut [u16], pred1: &[u16])
     average_plane(pred0, pred1, offset_v, chroma);
 }
 
-// Equal counts, and equal clipped vectors: equal places of the same block.
-fn same_motion(list0: EvcList, gmv0: QpelPlace, list1: EvcList, gmv1: QpelPlace) -> bool
-    ensures { result ≡ eqb list0.poc list1.poc && is_same gmv0 gmv1 }
+// Both lists are in use, with equal counts and equal clipped vectors: equal places of the same block.
+fn same_motion(l0: &BlockList, l1: &BlockList) -> bool
+    ensures { result ≡ (lent_list l0.now.list).list.used && (lent_list l1.now.list).list.used
+        && (eqb (lent_list l0.now.list).list.poc (lent_list l1.now.list).list.poc && is_same l0.now.gmv l1.now.gmv) }
 {
-    (list0.poc == list1.poc) & (gmv0 == gmv1)
+    match (l0.list, l1.list) {
+        (Some(list0), Some(list1)) => (list0.poc == list1.poc) & (l0.gmv == l1.gmv),
+        _ => false,
+    }
 }
 
 // ---- the call
 
-fn predict_lists(
-    b: Block,
-    l0: &RefPicList,
-    gmv0: QpelPlace,
-    l1: &RefPicList,
-    gmv1: QpelPlace,
-    pred0: &mut [u16],
-    pred1: &mut [u16],
-)
-    requires gmv_values { (gmv0 ≡ clipped_place b.given l0.now.list.mv) × (gmv1 ≡ clipped_place b.given l1.now.list.mv) }
-    requires accepted { Accepted b.given (list_of l0.now) (list_of l1.now) pred0.old pred1.old }
-    ensures pred0_after { pred0.new ≡ with_samples b.given (first_sample b.given (list_of l0.now) (list_of l1.now)) pred0.old }
-    ensures pred1_after { let samples = list_sample b.given (list_of l1.now) in
-        pred1.new ≡ cond (is_bi b.given l0.now.list l1.now.list) (with_samples b.given samples pred1.old) pred1.old }
+fn predict_lists(l0: &BlockList, l1: &BlockList, pred0: &mut [u16], pred1: &mut [u16])
+    requires same_block { l0.now.block.given ≡ l1.now.block.given }
+    requires accepted { Accepted l0.now.block.given (lent_list l0.now.list) (lent_list l1.now.list) pred0.old pred1.old }
+    ensures pred0_after { let b = l0.now.block.given in
+        pred0.new ≡ with_samples b (first_sample b (lent_list l0.now.list) (lent_list l1.now.list)) pred0.old }
+    ensures pred1_after { let b = l0.now.block.given in
+        let samples = list_sample b (lent_list l1.now.list) in
+        pred1.new ≡ cond (is_bi b (lent_list l0.now.list).list (lent_list l1.now.list).list) (with_samples b samples pred1.old) pred1.old }
 {
-    let both = l0.list.used & l1.list.used;
-    l0.predict(b, gmv0, pred0, pred1, PredBlock::First);
+    l0.predict(pred0, pred1, PredBlock::First);
     // Identical motion: list 0 alone stands.
-    if both & same_motion(l0.list, gmv0, l1.list, gmv1) {
+    if same_motion(l0, l1) {
         return;
     }
-    l1.predict(b, gmv1, pred0, pred1, l0.list.leaves_empty());
-    if both {
-        average_block(b, pred0, pred1);
+    l1.predict(pred0, pred1, l0.leaves_empty());
+    if l0.list.is_some() & l1.list.is_some() {
+        average_block(l0.block, pred0, pred1);
     }
 }
 
 pub fn evc_mc2(
     block: EvcBlock,
-    l0: &RefPicList,
-    l1: &RefPicList,
+    list0: Option<&RefPicList>,
+    list1: Option<&RefPicList>,
     pred0: &mut [u16],
     pred1: &mut [u16],
 ) -> Result<ListsMoved, Refusal>
-    ensures result_value { answer_of result ≡ mc2_answer block (list_of l0.now) (list_of l1.now) pred0.old pred1.old }
-    ensures pred0_after { pred0.new ≡ mc2_first block (list_of l0.now) (list_of l1.now) pred0.old pred1.old }
-    ensures pred1_after { pred1.new ≡ mc2_second block (list_of l0.now) (list_of l1.now) pred0.old pred1.old }
+    ensures result_value { answer_of result ≡ mc2_answer block (lent_list list0.entry) (lent_list list1.entry) pred0.old pred1.old }
+    ensures pred0_after { pred0.new ≡ mc2_first block (lent_list list0.entry) (lent_list list1.entry) pred0.old pred1.old }
+    ensures pred1_after { pred1.new ≡ mc2_second block (lent_list list0.entry) (lent_list list1.entry) pred0.old pred1.old }
 {
     let b = Block::new(block)?;
-    let placed = b.placed();
-    let gmv0 = evc_clip::clipped_place(placed, l0.list.mv);
-    let gmv1 = evc_clip::clipped_place(placed, l1.list.mv);
-    check_lists(b, l0, gmv0, l1, gmv1, pred0, pred1)?;
-    predict_lists(b, l0, gmv0, l1, gmv1, pred0, pred1);
+    let l0 = block_list(b, list0);
+    let l1 = block_list(b, list1);
+    check_lists(&l0, &l1, pred0, pred1)?;
+    predict_lists(&l0, &l1, pred0, pred1);
     Ok(ListsMoved {
-        moved0: l0.moved(b),
-        moved1: l1.moved(b),
+        moved0: l0.moved(),
+        moved1: l1.moved(),
     })
 }

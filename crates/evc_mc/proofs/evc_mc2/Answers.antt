@@ -12,7 +12,7 @@ use Rattle.evc_def.specs.declared.refusal.Refusal.{Refusal}
 use Rattle.evc_def.proofs.Refusals.{not_0}
 use Rattle.evc_def.proofs.Codes.{stops}
 use Rattle.evc_mc.specs.Block.{RefPicList, with_samples, list_sample, first_sample, is_bi, mc2_code, mc2_first, mc2_second}
-use Rattle.evc_mc.specs.Lent.{list_of}
+use Rattle.evc_mc.specs.Lent.{lent_list}
 use Rattle.evc_mc.proofs.Answers.{silent, reports}
 use Rattle.evc_mc.proofs.Checks.{accepts}
 use Rattle.evc_mc.proofs.evc_mc2.Goals as goal
@@ -34,33 +34,40 @@ module _ (b : EvcBlock) (l m : RefPicList) (p q : List ℕ) where
 pub returns-in_err-b : goal.returns-in_err-b
 returns-in_err-b c =
     let a = c.args in
-    let l = list_of a.l0.now in
-    let m = list_of a.l1.now in
+    let l = lent_list a.list0 in
+    let m = lent_list a.list1 in
     let p = err_from_is_err_and c.from_residual.result c.from_residual.ensures.1 in
     let e = block_refused a.block l m a.pred0.now a.pred1.now _ c.in_err-b.ensures.code in
     let same = untouched a.block l m a.pred0.now a.pred1.now _ e (not_0 _) in
-    rw (p.1, p.2) (record { result_value = silent a.block a.l0.now.list a.l1.now.list _ _ e (not_0 _) _ refl; pred0_after = same.0; pred1_after = same.1 })
+    rw (p.1, p.2) (record { result_value = silent a.block l.list m.list _ _ e (not_0 _) _ refl; pred0_after = same.0; pred1_after = same.1 })
 
 pub returns-in_err-check_lists : goal.returns-in_err-check_lists
 returns-in_err-check_lists c =
     let a = c.args in
-    let l = list_of a.l0.now in
-    let m = list_of a.l1.now in
+    let l = lent_list a.list0 in
+    let m = lent_list a.list1 in
+    let x = c.block_list-l0.ensures in
+    let y = c.block_list-l1.ensures in
     let p = err_from_is_err_and c.from_residual-in_err-check_lists.result c.from_residual-in_err-check_lists.ensures.1 in
-    let e = (simp c.in_ok-b.ensures.value at c.in_err-check_lists.ensures) in
+    let e = simp (x.0, x.1, y.1, c.in_ok-b.ensures.value) at c.in_err-check_lists.ensures in
     let same = untouched a.block l m a.pred0.now a.pred1.now _ e (not_0 _) in
-    rw (p.1, p.2) (record { result_value = silent a.block a.l0.now.list a.l1.now.list _ _ e (not_0 _) _ refl; pred0_after = same.0; pred1_after = same.1 })
+    rw (p.1, p.2) (record { result_value = silent a.block l.list m.list _ _ e (not_0 _) _ refl; pred0_after = same.0; pred1_after = same.1 })
 
 pub predict_lists-requires-clause-accepted : goal.predict_lists-requires-clause-accepted
-predict_lists-requires-clause-accepted c =
-    accepts _ (list_of c.args.l0.now) (list_of c.args.l1.now) _ _ (sym c.in_ok-check_lists.ensures)
+predict_lists-requires-clause-accepted c = accepts _ _ _ _ _ (sym c.in_ok-check_lists.ensures)
 
 pub returns : goal.returns
 returns c =
     let a = c.args in
-    let l = list_of a.l0.now in
-    let m = list_of a.l1.now in
+    let l = lent_list a.list0 in
+    let m = lent_list a.list1 in
+    let x = c.block_list-l0.ensures in
+    let y = c.block_list-l1.ensures in
     let v = c.in_ok-b.ensures.value in
-    let ok = simp v at c.in_ok-check_lists.ensures in
-    let same = predicted a.block l m a.pred0.now a.pred1.now (sym ok) _ _ (simp v at c.predict_lists.ensures.pred0_after) (simp v at c.predict_lists.ensures.pred1_after) in
-    record { result_value = reports a.block a.l0.now.list a.l1.now.list _ _ ok (sym ok) _ _ (simp v at c.moved.ensures) (simp v at c.moved-2.ensures); pred0_after = same.0; pred1_after = same.1 }
+    let ok = simp (x.0, x.1, y.1, v) at c.in_ok-check_lists.ensures in
+    let same = predicted a.block l m a.pred0.now a.pred1.now (sym ok) _ _ (simp (x.0, x.1, y.1, v) at c.predict_lists.ensures.pred0_after) (simp (x.0, x.1, y.1, v) at c.predict_lists.ensures.pred1_after) in
+    record {
+      result_value = reports a.block l.list m.list _ _ ok (sym ok) _ _ (simp (x.0, x.1, v) at c.moved.ensures) (simp (y.0, y.1, v) at c.moved-2.ensures);
+      pred0_after = same.0;
+      pred1_after = same.1;
+    }

@@ -1,10 +1,11 @@
--- `evc_mc::RefPicList::predict` meets its contract: nothing for a list that is not in use, else its three planes. Assumes nothing.
+-- `evc_mc::BlockList::predict` meets its contract: nothing for a list that is not in use, else its three planes. Assumes nothing.
 use Prim.Native.Nat.{ℕ, ◌*◌, ◌≤◌}
 use mathlib.Core.Bool.{Bool, true, false, cond}
 use mathlib.Core.List.{List}
 use mathlib.Core.Path.{◌≡◌, refl, sym, ap, ◌∙◌}
 use native.Mathlib.Omega.{arith}
 use lib.ListN.{length}
+use Rattle.std.proofs.Common.{Some}
 use Rattle.evc_int.specs.Lists.{with_block}
 use Rattle.evc_def.specs.declared.EvcBlock.{EvcBlock}
 use Rattle.evc_def.specs.declared.QpelPlace.{QpelPlace}
@@ -20,10 +21,10 @@ use Rattle.evc_pick.specs.declared.PredBlock.{PredBlock}
 use Rattle.evc_pick.specs.declared.PredBlock.TheVariants.{First, Second}
 use Rattle.evc_mc.specs.Block.{RefPicList, Component, luma, cb, cr, type_of, plane_of, offset_of, width_of, height_of, with_component, with_samples, list_sample, pred_len}
 use Rattle.evc_mc.specs.Inner.{Examined, with_list}
-use Rattle.evc_mc.specs.Lent.{list_of}
+use Rattle.evc_mc.specs.Lent.{lent_list}
 use Rattle.evc_mc.proofs.Checks.{sides, plane_accepted}
 use Rattle.evc_mc.proofs.Samples.{component_room, component_end}
-use Rattle.evc_mc.proofs.RefPicList.predict.Goals as goal
+use Rattle.evc_mc.proofs.BlockList.predict.Goals as goal
 
 module _ (b : EvcBlock) (l : RefPicList) where
   unused : (block : PredBlock) (p0 p1 : List ℕ) → l.list.used ≡ false → (p0 ≡ by_block block (with_list b l p0) p0) × (p1 ≡ by_block block p1 (with_list b l p1))
@@ -77,33 +78,65 @@ module _ (b : EvcBlock) (l : RefPicList) where
       done Second o q p0 p1 a0 a1 b0 b1 c0 c1 u eo eq x0 x1 y0 y1 z0 z1 = (z0 ∙ y0 ∙ x0, three o q p1 a1 b1 c1 u eo eq x1 y1 z1)
       done First o q p0 p1 a0 a1 b0 b1 c0 c1 u eo eq x0 x1 y0 y1 z0 z1 = (three o q p0 a0 b0 c0 u eo eq x0 y0 z0, z1 ∙ y1 ∙ x1)
 
-pub returns-then-not-self : goal.returns-then-not-self
-returns-then-not-self c =
-    let a = c.args in let parts = unused a.b.given (list_of a.self.now) a.block a.pred0.now a.pred1.now c.if-not-self.true in record { pred0_after = parts.0; pred1_after = parts.1 }
-
-pub predict_component-requires : goal.predict_component-requires
-predict_component-requires c =
+pub returns-in_default : goal.returns-in_default
+returns-in_default c =
     let a = c.args in
-    let r = component_room a.b.given (sides a.b.given a.b.checked) luma in record { readable = reads a.b.given (list_of a.self.now) a.gmv luma _ a.pred0.now a.b.checked (c.requires.list_examined c.if-not-self.false luma) c.requires.pred_len_in_bounds.0 (simp (c.picture-pic.ensures.0, c.picture-pic.ensures.1) at c.position_of-luma.ensures); w_in_bounds = (omega (arith, c.requires.pred_len_in_bounds.0), omega (arith, c.requires.pred_len_in_bounds.1)) }
+    let parts = unused a.self.now.block.given (lent_list a.self.now.list) a.to a.pred0.now a.pred1.now (simp c.in_default.is) in
+    record { pred0_after = parts.0; pred1_after = parts.1 }
 
-pub predict_component-requires-2 : goal.predict_component-requires-2
-predict_component-requires-2 c =
-    let a = c.args in
+pub predict_component-requires-clause-readable : goal.predict_component-requires-clause-readable
+predict_component-requires-clause-readable c =
+    let s = c.args.self.now in
+    let p = c.picture-pic.ensures in
+    reads s.block.given (lent_list (Some c.in-Some.l)) s.gmv luma _ c.args.pred0.now s.block.checked ((simp c.in-Some.is at c.requires.list_examined) refl luma)
+    c.requires.pred_len_in_bounds.0 (simp (p.0, p.1) at c.position_of-luma.ensures)
+
+pub predict_component-requires-2-clause-readable : goal.predict_component-requires-2-clause-readable
+predict_component-requires-2-clause-readable c =
+    let s = c.args.self.now in
+    let p = c.picture-pic.ensures in
+    reads s.block.given (lent_list (Some c.in-Some.l)) s.gmv cb _ c.args.pred0.now s.block.checked ((simp c.in-Some.is at c.requires.list_examined) refl cb)
+    c.requires.pred_len_in_bounds.0 (simp (p.0, p.1) at c.position_of-chroma.ensures)
+
+pub predict_component-requires-3-clause-readable : goal.predict_component-requires-3-clause-readable
+predict_component-requires-3-clause-readable c =
+    let s = c.args.self.now in
+    let p = c.picture-pic.ensures in
+    reads s.block.given (lent_list (Some c.in-Some.l)) s.gmv cr _ c.args.pred0.now s.block.checked ((simp c.in-Some.is at c.requires.list_examined) refl cr)
+    c.requires.pred_len_in_bounds.0 (simp (p.0, p.1) at c.position_of-chroma.ensures)
+
+pub predict_component-requires-clause-w_in_bounds : goal.predict_component-requires-clause-w_in_bounds
+predict_component-requires-clause-w_in_bounds c =
+    let b = c.args.self.now.block in
+    let r = component_room b.given (sides b.given b.checked) luma in
+    (omega (arith, r, c.requires.pred_len_in_bounds.0), omega (arith, r, c.requires.pred_len_in_bounds.1))
+
+pub predict_component-requires-2-clause-w_in_bounds : goal.predict_component-requires-2-clause-w_in_bounds
+predict_component-requires-2-clause-w_in_bounds c =
+    let b = c.args.self.now.block in
     let k = c.predict_component.auto in
     let o = c.cu_dim_offset-offset_u.ensures in
-    let v = c.cu_dim_offset-offset_v.ensures in
-    let r = component_room a.b.given (sides a.b.given a.b.checked) cb in record { readable = reads a.b.given (list_of a.self.now) a.gmv cb _ a.pred0.now a.b.checked (c.requires.list_examined c.if-not-self.false cb) c.requires.pred_len_in_bounds.0 (simp (c.picture-pic.ensures.0, c.picture-pic.ensures.1) at c.position_of-chroma.ensures); w_in_bounds = (omega (arith, k.pred0, c.requires.pred_len_in_bounds.0), omega (arith, k.pred1, c.requires.pred_len_in_bounds.1)) }
+    let r = component_room b.given (sides b.given b.checked) cb in
+    (omega (arith, r, o, k.pred0, c.requires.pred_len_in_bounds.0), omega (arith, r, o, k.pred1, c.requires.pred_len_in_bounds.1))
 
-pub predict_component-requires-3 : goal.predict_component-requires-3
-predict_component-requires-3 c =
-    let a = c.args in
+pub predict_component-requires-3-clause-w_in_bounds : goal.predict_component-requires-3-clause-w_in_bounds
+predict_component-requires-3-clause-w_in_bounds c =
+    let b = c.args.self.now.block in
     let k = c.predict_component.auto in
     let m = c.predict_component-2.auto in
     let o = c.cu_dim_offset-offset_v.ensures in
-    let r = component_room a.b.given (sides a.b.given a.b.checked) cr in record { readable = reads a.b.given (list_of a.self.now) a.gmv cr _ a.pred0.now a.b.checked (c.requires.list_examined c.if-not-self.false cr) c.requires.pred_len_in_bounds.0 (simp (c.picture-pic.ensures.0, c.picture-pic.ensures.1) at c.position_of-chroma.ensures); w_in_bounds = (omega (arith, k.pred0, m.pred0, c.requires.pred_len_in_bounds.0), omega (arith, k.pred1, m.pred1, c.requires.pred_len_in_bounds.1)) }
+    let r = component_room b.given (sides b.given b.checked) cr in
+    (omega (arith, r, o, k.pred0, m.pred0, c.requires.pred_len_in_bounds.0), omega (arith, r, o, k.pred1, m.pred1, c.requires.pred_len_in_bounds.1))
 
 pub returns : goal.returns
 returns c =
-    let a = c.args in let parts = done a.b.given (list_of a.self.now) a.gmv c.requires.gmv_value _ _ (simp (c.picture-pic.ensures.0, c.picture-pic.ensures.1) at c.position_of-luma.ensures) (simp (c.picture-pic.ensures.0, c.picture-pic.ensures.1) at c.position_of-chroma.ensures) a.block _ _ a.pred0.now a.pred1.now _ _ _ _ _ _ c.if-not-self.false
-    c.cu_dim_offset-offset_u.ensures c.cu_dim_offset-offset_v.ensures
-    c.predict_component.ensures.pred0_after c.predict_component.ensures.pred1_after c.predict_component-2.ensures.pred0_after c.predict_component-2.ensures.pred1_after c.predict_component-3.ensures.pred0_after c.predict_component-3.ensures.pred1_after in record { pred0_after = parts.0; pred1_after = parts.1 }
+    let a = c.args in
+    let s = a.self.now in
+    let e = c.in-Some.is in
+    let p = c.picture-pic.ensures in
+    let x = c.predict_component.ensures in
+    let y = c.predict_component-2.ensures in
+    let z = c.predict_component-3.ensures in
+    let parts = done s.block.given (lent_list (Some c.in-Some.l)) s.gmv (simp e at s.clipped) _ _ (simp (p.0, p.1) at c.position_of-luma.ensures) (simp (p.0, p.1) at c.position_of-chroma.ensures) a.to _ _ a.pred0.now a.pred1.now _ _ _ _ _ _ refl
+    c.cu_dim_offset-offset_u.ensures c.cu_dim_offset-offset_v.ensures x.pred0_after x.pred1_after y.pred0_after y.pred1_after z.pred0_after z.pred1_after in
+    rw e (record { pred0_after = parts.0; pred1_after = parts.1 })
