@@ -45,7 +45,7 @@ fn predict_at(t: PlaneType, p: Position, w: usize, h: usize, plane: &[u16], pred
     );
 }
 
-// One plane of a list to the by_block block, at the plane's offset.
+// One plane of a list to the picked block, at the plane's offset.
 pub fn predict_component<'p, 'a>(
     t: PlaneType,
     p: Position,
