@@ -31,15 +31,15 @@ no_more s at h = let n : (length s - at + 21) / 22 ≡ 0 = omega arith in ap (re
 
 -- ---- the library's chunks: each is what stands in front of the rest
 
-moved : (s : List ℕ) (k j n : ℕ) → records_at s (k + j) n ≡ records_at (drop k s) j n
+pub records_drop : (s : List ℕ) (k j n : ℕ) → records_at s (k + j) n ≡ records_at (drop k s) j n
 unfolding records_at
-moved s k j zero = refl
-moved s k j (suc n) = rw (drop-drop j k s, add_assoc k j 22, moved s k (j + 22) n)
+records_drop s k j zero = refl
+records_drop s k j (suc n) = rw (drop-drop j k s, add_assoc k j 22, records_drop s k (j + 22) n)
 
 pub left : (s : List ℕ) (at : ℕ) → records_from s at ≡ records_from (drop at s) 0
 left s at =
     let n : (length (drop at s) - 0 + 21) / 22 ≡ (length s - at + 21) / 22 = omega (arith, length-drop at s) in
-    ap (λ (i : ℕ). records_at s i ((length s - at + 21) / 22)) (sym (add-zero at)) ∙ moved s at 0 _ ∙ sym (ap (records_at (drop at s) 0) n)
+    ap (λ (i : ℕ). records_at s i ((length s - at + 21) / 22)) (sym (add-zero at)) ∙ records_drop s at 0 _ ∙ sym (ap (records_at (drop at s) 0) n)
 
 pub next_chunk : (s bytes rest : List ℕ) → s ≡ bytes ++ rest → length bytes ≡ min 22 (length s) → 0 < length s → records_from s 0 ≡ bytes ∷ records_from rest 0
 next_chunk s bytes rest e l more =

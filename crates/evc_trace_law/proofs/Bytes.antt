@@ -14,7 +14,7 @@ use mir.Val.{SFits}
 use Rattle.evc_int.specs.Whole.{−◌, ◌modulo◌}
 use Rattle.evc_int.specs.LowBits.{signed16, low16}
 use Rattle.evc_int.proofs.Division.{split_only}
-use Rattle.evc_int.proofs.Expressions.{!, ◌⊕◌, ◌⊗◌, ◌⊖◌, solve}
+use Rattle.evc_int.proofs.Expressions.{ !, ◌⊕◌, ◌⊗◌, ◌⊖◌, solve}
 use Rattle.evc_int.proofs.LowBits.{low16_same}
 use Rattle.evc_bytes.specs.Bytes.{bytes_of, number_at}
 use Rattle.evc_trace_law.specs.RoundTrip.{Bytes}

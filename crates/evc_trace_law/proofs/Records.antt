@@ -2,11 +2,12 @@
 use mathlib.Core.List.{List, ◌∷◌, ◌++◌}
 use mathlib.Core.Path.{◌≡◌, refl, ap, ◌∙◌}
 use Prim.Native.Nat.{ℕ, zero, suc, ◌+◌, ◌-◌, ◌*◌, ◌/◌, ◌≤◌}
-use native.Mathlib.Nat.{zero-add, add_assoc, suc-add}
+use native.Mathlib.Nat.{zero-add, suc-add}
 use native.Mathlib.Omega.{arith}
 use lib.ListN.{length, take, drop, length-append, length-drop}
-use lib.Seq.{drop-append-le, drop-append-add, take-append-le}
+use lib.Seq.{drop-append-le, drop_at, take-append-le}
 use Rattle.evc_replay.specs.Replay.{records_at, records_from}
+use Rattle.evc_replay.proofs.Records.{records_drop}
 
 split : (s : List ℕ) (at n m : ℕ) → records_at s at (n + m) ≡ records_at s at n ++ records_at s (at + 22 * n) m
 unfolding records_at
@@ -22,9 +23,7 @@ first s b at (suc n) h =
     rw (drop-append-le at s b (omega arith), take-append-le 22 (drop at s) b (omega (arith, length-drop at s)), first s b (at + 22) n (omega arith))
 
 rest : (s b : List ℕ) (j n : ℕ) → records_at (s ++ b) (length s + j) n ≡ records_at b j n
-unfolding records_at
-rest s b j zero = refl
-rest s b j (suc n) = rw (drop-append-add s b j, add_assoc (length s) j 22, rest s b (j + 22) n)
+rest s b j n = records_drop (s ++ b) (length s) j n ∙ ap (λ (l : List ℕ). records_at l j n) (drop_at s b (length s) refl)
 
 -- n whole records, and then those of b
 pub records_append : (s b : List ℕ) (at n : ℕ) → at + 22 * n ≡ length s → records_from (s ++ b) at ≡ records_from s at ++ records_from b 0

@@ -1,5 +1,4 @@
 -- `evc_replay::checked_header` meets its contract. Assumes nothing.
-use borrow.Author.Rules.{rules}
 use mathlib.Core.Bool.{not}
 use mathlib.Core.Path.{sym, ap, ◌∙◌}
 use native.Mathlib.Omega.{arith}
@@ -20,9 +19,6 @@ returns-then-trace-lt-HEADER_LEN-clause-code c =
     let s = a.trace.now in
     code_11 s p q (is_present r.col_mv) (numbers_of r.col_mv) t c.if-trace-lt-HEADER_LEN.true
 
-pub is_trace-requires : goal.is_trace-requires
-is_trace-requires c = search rules
-
 pub returns-then-not-is_trace-clause-code : goal.returns-then-not-is_trace-clause-code
 returns-then-not-is_trace-clause-code c =
     let a = c.args in
@@ -32,9 +28,6 @@ returns-then-not-is_trace-clause-code c =
     let t = target_of a.target.now in
     let s = a.trace.now in
     code_10 s p q (is_present r.col_mv) (numbers_of r.col_mv) t c.if-trace-lt-HEADER_LEN.false (ap not (sym c.is_trace.ensures ∙ c.if-not-is_trace.true))
-
-pub read_header-h-requires : goal.read_header-h-requires
-read_header-h-requires c = search rules
 
 pub returns-in_err-pic-clause-code : goal.returns-in_err-pic-clause-code
 returns-in_err-pic-clause-code c =

@@ -35,9 +35,6 @@ loop-record-init c =
       ap (λ (d : MovedCounts). d plus counts_over from (records_from c.into_iter-record-iterator.result.rest.now 0)) n ∙ nothing_plus _ ∙ ap (counts_over from) whole,
     )
 
-pub replay_record-requires-clause-long_enough : goal.replay_record-requires-clause-long_enough
-replay_record-requires-clause-long_enough c = c.loop-record.invariant.2
-
 pub returns-in-Err : goal.returns-in-Err
 returns-in-Err c =
     let a = c.args in
