@@ -33,6 +33,7 @@ struct Bits(f64);
 
 // ---- a record
 
+// The words of slice_lists are made so too, of numbers of another width: one function for both would take the width and the conversion, which is all of it.
 fn map_of(alloc: Global, bytes: &[u8]) -> Result<Vec<i16>, AllocError> {
     let (numbers, _) = bytes.as_chunks::<2>();
     numbers

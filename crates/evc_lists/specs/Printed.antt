@@ -1,5 +1,5 @@
 -- What the programs print of samples.
-use Rattle.std.specs.Prelude.{List, [], ◌∷◌, ◌++◌, ℕ, zero, suc, ◌+◌, ◌*◌, ◌%◌, decimal, length, take, drop, Result, Ok, Err}
+use Rattle.std.specs.Prelude.{◌==◌, cond, List, [], ◌∷◌, ◌++◌, ℕ, zero, suc, ◌+◌, ◌*◌, ◌%◌, decimal, length, take, drop, Result, Ok, Err}
 use Rattle.evc_def.specs.declared.refusal.Refusal.{Refusal}
 use Rattle.evc_def.specs.Refusals.{code_of}
 use Rattle.evc_lists.specs.declared.RowForm.{RowForm}
@@ -23,6 +23,10 @@ spaced (sample ∷ samples) = decimal sample ++ others samples
 abbrev pub ok_or : {A B : Type 0} → A → Result A B → A
 ok_or other (Ok x) = x
 ok_or other (Err e) = other
+
+-- as a record asks for it: 1 stands for the rows whole
+abbrev pub row_form : ℕ → RowForm
+row_form n = cond (n == 1) Whole Number
 
 -- a row whole, or as a number
 abbrev pub row_text : RowForm → List ℕ → List ℕ

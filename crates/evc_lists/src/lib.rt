@@ -9,7 +9,7 @@ ghost use Rattle.evc_lists.specs.Records.{number, number32};
 ghost use Rattle.evc_lists.specs.Units.{word_of};
 ghost use Rattle.evc_lists.specs.Arbitrary.{following, scattered, below};
 ghost use Rattle.evc_lists.specs.Planes.{type_of, samples_of, set_sample_of, is_in, planes_of, pictures_of, padded_plane, finished, plane_of};
-ghost use Rattle.evc_lists.specs.Printed.{hash, others, spaced, row_line, rows_text, flags_text};
+ghost use Rattle.evc_lists.specs.Printed.{hash, others, spaced, row_line, row_form, rows_text, flags_text};
 
 use evc_def::{EvcBlock, EvcMv, RefList, Refusal};
 use evc_plane::PlaneType;
@@ -38,6 +38,7 @@ impl<const N: usize> Record for [u8; N] {
 
 // Runs the next records, `most` of them or as many as there are. A record's step may read what follows it: how far the input has got
 // is up to the steps, of which the bound says only that they may be called. The clause needs the name F, which an `impl FnMut` has not.
+// Each program's `main` is this call over the runtime's reader and writer, whose types have no names: a function for all of them would need those.
 pub fn for_each_record<R: Read, T: Record, F: FnMut(&mut R, T) -> io::Result<()>>(
     alloc: Global,
     input: &mut R,
@@ -505,6 +506,8 @@ pub enum RowForm {
 
 // As a record asks for it: 1 stands for the rows whole.
 impl From<u16> for RowForm {
+    ghost from_gives = { λ n form. form ≡ row_form n };
+
     fn from(n: u16) -> RowForm {
         match n {
             1 => RowForm::Whole,
@@ -566,6 +569,8 @@ mod tests {
         );
         let all = samples(alloc, 3, 1)?;
         assert_eq!(rt; all.as_slice(), [33676, 11517, 20227].as_slice());
+        let lent = Arbitrary { len: 9, seed: 1 }.samples(alloc, 2)?;
+        assert_eq!(rt; lent.as_slice(), [33676, 11517].as_slice());
         let small = samples_below(alloc, 3, 1, 100)?;
         assert_eq!(rt; small.as_slice(), [76, 17, 27].as_slice());
         Ok(())
@@ -576,6 +581,8 @@ mod tests {
         let mut input = [1u8, 2, 3].as_slice();
         let two = read_vec(rt.alloc(), &mut input, 2)?;
         assert_eq!(rt; two.map(|bytes| bytes.len()), Some(2));
+        let none = read_lent(rt.alloc(), &mut input, 2, 0)?;
+        assert_eq!(rt; none.map(|bytes| bytes.len()), Some(0));
         let more = read_vec(rt.alloc(), &mut input, 2)?;
         assert!(rt; more.is_none());
         Ok(())
@@ -598,6 +605,7 @@ mod tests {
     fn makes_a_picture(rt: HostRuntime) -> Result<(), Fail> {
         let numbers = [4, 4, 1, 0, 100, 0, 3, 0, 0, 0, 0, 0, 0, 1, 5];
         let picture = Pictures::new(numbers).picture(rt.alloc(), RefList::List0)?;
+        assert_eq!(rt; picture.y.len(), 3);
         assert_eq!(rt; picture.y.as_slice(), [76, 5, 27].as_slice());
         assert_eq!(rt; picture.v.len(), 0);
         Ok(())

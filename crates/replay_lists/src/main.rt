@@ -53,6 +53,13 @@ struct Answer {
 // ---- a record
 
 impl MapRecord {
+    fn new([has_map, len, seed, span]: [u16; 4]) -> Option<MapRecord> {
+        (has_map == 1).then_some(MapRecord {
+            arbitrary: Arbitrary { len, seed },
+            span,
+        })
+    }
+
     // An arbitrary number of the span, around 0; without a span all are 0.
     fn centred(self, arbitrary: u16) -> i16 {
         let Some(n) = arbitrary.checked_rem(self.span) else {
@@ -76,26 +83,10 @@ impl Record for Call {
         let Some(bytes) = evc_lists::read_array::<R, 48>(input)? else {
             return Ok(None)
         };
-        let [
-            seed,
-            y_len,
-            u_len,
-            v_len,
-            has_map,
-            map_len,
-            map_seed,
-            span,
-            asked,
-        ] = evc_lists::numbers::<9>(&bytes[2 * 15..]);
+        let [seed, y_len, u_len, v_len] = evc_lists::numbers::<4>(&bytes[2 * 15..]);
+        let [asked] = evc_lists::numbers::<1>(&bytes[2 * 23..]);
         let Some(trace) = evc_lists::read_lent(alloc, input, asked, MAX_TRACE_LEN)? else {
             return Ok(None)
-        };
-        let map = MapRecord {
-            arbitrary: Arbitrary {
-                len: map_len,
-                seed: map_seed,
-            },
-            span,
         };
         Ok(Some(Call {
             pictures: Pictures::new(evc_lists::numbers(&bytes)),
@@ -105,7 +96,7 @@ impl Record for Call {
                 u_len,
                 v_len,
             },
-            map: (has_map == 1).then_some(map),
+            map: MapRecord::new(evc_lists::numbers(&bytes[2 * 19..])),
             trace,
         }))
     }
