@@ -1,5 +1,5 @@
 -- `evc_clip::moved_mv` meets its contract. Assumes nothing.
-use mathlib.Core.Path.{◌≡◌, ◌∙◌}
+use mathlib.Core.Path.{◌≡◌}
 use Prim.Native.Nat.{ℕ}
 use borrow.Author.Rules.{rules}
 use mir.Facts.{to_z-of_z}

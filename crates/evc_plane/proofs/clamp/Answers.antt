@@ -11,7 +11,7 @@ use mir.Facts.{to_z-of_z}
 use borrow.Author.Rules.{rules}
 use Rattle.std.specs.Int.{int_min, int_max}
 use Rattle.evc_int.specs.Whole.{−◌, ◌⁺, ◌⁻, clip3}
-use Rattle.evc_int.proofs.Whole.{Is, of, nat, is-+, is--, is_neg, is_eq, same, parts, abs_of, lt_yes, lt_false, ≤ℤ-yes}
+use Rattle.evc_int.proofs.Whole.{of, nat, is-+, is--, is_neg, is_eq, same, parts, abs_of, lt_yes, lt_false, ≤ℤ-yes}
 use Rattle.evc_int.proofs.Machine.{arg, uns, is_rd, fit}
 use Rattle.evc_plane.specs.Planes.{start_at}
 use Rattle.evc_plane.proofs.clamp.Goals as goal

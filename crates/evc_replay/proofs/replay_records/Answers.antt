@@ -70,8 +70,8 @@ loop-at-preserved c =
       r.pred0 ∙ i.5,
       r.pred1 ∙ i.6,
       went_on from a.trace.now at c.loop-at.index target _ c.record_at-record.ensures more _ c.in-Ok.ensures.v_after z ∙ i.7,
-      most_less (2 * c.loop-at.index + 2) _ _ (omega arith) (subst (AtMost (2 * c.loop-at.index + 2)) (sym c.with_lists-counts.ensures) (lists_most (2 * c.loop-at.index) c.loop-at.counts _ _ i.8)),
-      counted_on from a.trace.now at c.loop-at.counts _ c.record_at-record.ensures more z _ c.in-Ok.ensures.result_value _ c.with_lists-counts.ensures ∙ i.9,
+      most_less (2 * c.loop-at.index + 2) _ _ (omega arith) (subst (AtMost (2 * c.loop-at.index + 2)) (sym (simp (c.from-moved0.ensures, c.from-moved1.ensures) at c.with_lists-counts.ensures)) (lists_most (2 * c.loop-at.index) c.loop-at.counts _ _ i.8)),
+      counted_on from a.trace.now at c.loop-at.counts _ c.record_at-record.ensures more z _ c.in-Ok.ensures.result_value _ (simp (c.from-moved0.ensures, c.from-moved1.ensures) at c.with_lists-counts.ensures) ∙ i.9,
     )
 
 pub returns : goal.returns
