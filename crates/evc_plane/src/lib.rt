@@ -7,6 +7,7 @@ use evc_def::{PIC_PAD_SIZE_C, PIC_PAD_SIZE_L, Pel, Picture};
 
 // ---- the sizes of Plane::new
 
+// A call names it by a flag, `chroma`, which `plane_type` of evc_inter reads: a name says more there than `PlaneType::from(true)`.
 #[derive(Clone, Copy, PartialEq, Eq)]
 pub enum PlaneType {
     Y,

@@ -16,6 +16,10 @@ fn too_large(o: u16) -> bool
     o > MAX_SAMPLE_VAL
 }
 
+// ---- h rows of n samples, the rows `stride` apart and the first one at `at`
+// Rows are counted: `chunks` and `step_by` ask for a stride above 0, which callers need not give. The five numbers stay apart: as a struct with
+// the ghost field that they lie in the list, as fast, they read no plainer, since its literals may not end in `..` and name all fields.
+
 // N samples from i on and N from j on are gathered at once: one vector over all rows.
 fn gather_lanes<const N: usize>(o: Simd<u16, N>, s: &[u16], i: usize, j: usize) -> Simd<u16, N>
     requires { (length o ≡ N) × (i + N ≤ length s.now) × (j + N ≤ length s.now) }
@@ -37,7 +41,8 @@ fn or_lanes<const N: usize>(s: &[u16], at: usize, stride: usize, n: usize, h: us
     o.reduce_or()
 }
 
-// Wider rows, by strips of sixteen columns: the last one goes to the row's end, and (n - 1) / 16 begin before it.
+// Wider rows, by strips of sixteen columns: the last one goes to the row's end, and (n - 1) / 16 begin before it. By `step_by(16)` over the
+// columns a luma block of 16x16 takes 1.23 of the time.
 fn or_strips(s: &[u16], at: usize, stride: usize, n: usize, h: usize) -> u16
     requires { (at + h * stride + n ≤ length s.now + stride) × (16 ≤ n) × (0 < h) }
     ensures { too_large result ≡ exceeds s.now at stride n h }
@@ -88,7 +93,7 @@ fn or_window(s: &[u16], at: usize, stride: usize, n: usize, h: usize) -> u16
     or_strips(s, at, stride, n, h)
 }
 
-// Whether a sample above 1023 is among h rows of n, the rows `stride` apart and the first one at `at`. Built into its callers
+// Whether a sample above 1023 is among them. Built into its callers
 // it takes small blocks up to 2 ns more.
 #[inline(never)]
 pub fn window_exceeds(s: &[u16], at: usize, stride: usize, n: usize, h: usize) -> bool
