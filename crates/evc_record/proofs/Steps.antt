@@ -14,6 +14,8 @@ use Rattle.evc_mc.specs.Inner.{block_sample}
 use Rattle.evc_mc.specs.declared.EvcList.{EvcList}
 use Rattle.evc_mc.specs.declared.EvcPredicted.{EvcPredicted}
 use Rattle.evc_mc.proofs.Checks.{accepts, sides}
+use Rattle.evc_mc.specs.Lent.{in_use}
+use Rattle.evc_mc.proofs.Unused.{same_answer, same_first}
 use Rattle.evc_mc.proofs.Samples.{samples_at}
 use Rattle.evc_trace.specs.Format.{count_len, record_of}
 use Rattle.evc_trace.specs.declared.EvcTraceRecord.{EvcTraceRecord}
@@ -32,13 +34,13 @@ module _ (b : EvcBlock) (l m : RefPicList) (p q : List ℕ) (ep : length p ≡ p
   first_block a d e f z = let g : mc2_code b l m p q ≡ 0 = sym (ap (λ (a : EvcPredicted). a.code) e) ∙ z in rw g at f
 
 -- the block and the lists as the code made them
-pub predicted : (b b' : EvcBlock) (l l' m m' : EvcList) (s t : Planes) (p q d : List ℕ) (a : EvcPredicted) → length p ≡ pred_len → length q ≡ pred_len → b ≡ b' → l ≡ l' → m ≡ m'
-    → a ≡ mc2_answer b (with_planes l s) (with_planes m t) p q → d ≡ mc2_first b (with_planes l s) (with_planes m t) p q
-    → (a ≡ mc2_answer b' (with_planes l' s) (with_planes m' t) blank blank) × (a.code ≡ 0 → d ≡ with_samples b' (first_sample b' (with_planes l' s) (with_planes m' t)) p)
-predicted b b' l l' m m' s t p q d a ep eq eb el em e f =
-    let e' : a ≡ mc2_answer b' (with_planes l' s) (with_planes m' t) p q = e ∙ simp (eb, el, em) in
-    let f' : d ≡ mc2_first b' (with_planes l' s) (with_planes m' t) p q = f ∙ simp (eb, el, em) in
-    (e' ∙ ap (λ (c : ℕ). answered c b' l' m') (any_blocks b' (with_planes l' s) (with_planes m' t) p q ep eq), first_block b' (with_planes l' s) (with_planes m' t) p q ep eq a d e' f')
+pub predicted : (b b' : EvcBlock) (l m : EvcList) (s t : Planes) (k n : RefPicList) (p q d : List ℕ) (a : EvcPredicted) → length p ≡ pred_len → length q ≡ pred_len
+    → b ≡ b' → k ≡ in_use (with_planes l s) → n ≡ in_use (with_planes m t) → a ≡ mc2_answer b k n p q → d ≡ mc2_first b k n p q
+    → (a ≡ mc2_answer b' (with_planes l s) (with_planes m t) blank blank) × (a.code ≡ 0 → d ≡ with_samples b' (first_sample b' (with_planes l s) (with_planes m t)) p)
+predicted b b' l m s t k n p q d a ep eq eb ek en e f =
+    let e' : a ≡ mc2_answer b' (with_planes l s) (with_planes m t) p q = e ∙ (rw (eb, ek, en) refl) ∙ same_answer b' p q (with_planes l s) (with_planes m t) in
+    let f' : d ≡ mc2_first b' (with_planes l s) (with_planes m t) p q = f ∙ (rw (eb, ek, en) refl) ∙ same_first b' p q (with_planes l s) (with_planes m t) in
+    (e' ∙ ap (λ (c : ℕ). answered c b' l m) (any_blocks b' (with_planes l s) (with_planes m t) p q ep eq), first_block b' (with_planes l s) (with_planes m t) p q ep eq a d e' f')
 
 -- ---- a record's step
 

@@ -9,15 +9,16 @@ ghost use Rattle.evc_direct.specs.Direct.{answer_of as direct_answer};
 ghost use Rattle.evc_lanes.specs.Inner.{is_row_width};
 ghost use Rattle.evc_mc.specs.Block.{luma, cb, cr, pred_len, answer_of, mc2_answer, with_samples, first_sample, planes_short};
 ghost use Rattle.evc_mc.specs.Inner.{block_sample};
+ghost use Rattle.evc_mc.specs.Lent.{list_of, in_use};
 ghost use Rattle.evc_trace.specs.Format.{count_len, record_of};
 ghost use Rattle.evc_trace.specs.Kinds.{byte_of};
 ghost use Rattle.evc_record.specs.Record.{planes_of, target_of, SamePlanes, with_planes, picture_short, source_of, place_in, with_picture};
 ghost use Rattle.evc_record.specs.Record.{block_of, pocs_of, motion_of, list0_of, list1_of, blank, form_code, record_answer};
-ghost use Rattle.evc_record.specs.Inner.{after_record};
+ghost use Rattle.evc_record.specs.Inner.{record_list, after_record};
 
-use evc_def::{Block, EvcBlock, Picture, Refusal};
+use evc_def::{Block, EvcBlock, Picture, RefList, Refusal};
 use evc_direct::{DirectVectors, Pocs};
-use evc_mc::{EvcList, ListsMoved, Planes, RefPicList};
+use evc_mc::{ListsMoved, Planes, RefPicList};
 use evc_plane::{PlaneSlice, PlaneType};
 use evc_trace::{EvcTraceRecord, Kind, RECORD_LEN, TraceHeader};
 
@@ -146,24 +147,24 @@ fn motion(from: &Source, r: Record) -> Result<DirectVectors, Refusal>
     })
 }
 
-fn list0(r: Record, m: DirectVectors) -> EvcList
-    ensures { result ≡ list0_of r.fields (direct_answer (Ok m)) }
+// A list of the record with its picture; None where the kind is that of the other list alone.
+fn ref_pic_list<'a>(
+    list: RefList,
+    r: Record,
+    m: DirectVectors,
+    planes: Planes<'a>,
+) -> Option<RefPicList<'a>>
+    ensures { list_of result ≡ in_use (with_planes (record_list list r.fields (direct_answer (Ok m))) (planes_of planes.entry)) }
 {
-    EvcList {
-        used: r.kind != Kind::List1,
-        mv: m.mv0,
-        poc: r.fields.poc0 as u32,
-    }
-}
-
-fn list1(r: Record, m: DirectVectors) -> EvcList
-    ensures { result ≡ list1_of r.fields (direct_answer (Ok m)) }
-{
-    EvcList {
-        used: r.kind != Kind::List0,
-        mv: m.mv1,
-        poc: r.fields.poc1 as u32,
-    }
+    let (other, mv, poc) = match list {
+        RefList::List0 => (Kind::List1, m.mv0, r.fields.poc0),
+        RefList::List1 => (Kind::List0, m.mv1, r.fields.poc1),
+    };
+    (r.kind != other).then_some(RefPicList {
+        mv,
+        poc: u32::from(poc),
+        planes,
+    })
 }
 
 // ---- a record
@@ -216,15 +217,11 @@ fn predict_record(
         let l1 = with_planes (list1_of r.fields (direct_answer (Ok m))) e.ref1 in
         code_of result ≡ 0 → pred0.new ≡ with_samples b (first_sample b l0 l1) pred0.old }
 {
-    let l0 = RefPicList {
-        list: list0(r, m),
-        planes: from.references.ref0,
-    };
-    let l1 = RefPicList {
-        list: list1(r, m),
-        planes: from.references.ref1,
-    };
-    evc_mc::evc_mc2(block_of(from.header, r.fields), &l0, &l1, pred0, pred1)
+    let References { ref0, ref1, .. } = from.references;
+    let l0 = ref_pic_list(RefList::List0, r, m, ref0);
+    let l1 = ref_pic_list(RefList::List1, r, m, ref1);
+    let block = block_of(from.header, r.fields);
+    evc_mc::evc_mc2(block, l0.as_ref(), l1.as_ref(), pred0, pred1)
 }
 
 // One record: its number and reports, and on 0 its block in the target.
