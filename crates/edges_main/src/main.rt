@@ -5,7 +5,7 @@
 use evc_clip::Clipped;
 use evc_def::{EvcBlock, EvcMv, Picture, Refusal};
 use evc_direct::{DirectVectors, Pocs};
-use evc_mc::{EvcList, ListsMoved, PRED_LEN, RefPicList};
+use evc_mc::{ListsMoved, PRED_LEN, RefPicList};
 use evc_motion::EvcCandidates;
 use evc_plane::PlaneType;
 use std::alloc::{AllocError, Global};
@@ -55,14 +55,6 @@ fn one_plane(t: PlaneType, b: EvcBlock, w: u32, h: u32, plane: &[u16]) -> Result
     evc_interp::evc_mc_plane(t, b.pic_w, b.pic_h, mv, mv, w, h, plane, &mut pred)
 }
 
-fn list_of(poc: u32) -> EvcList {
-    EvcList {
-        used: true,
-        mv: EvcMv::default(),
-        poc,
-    }
-}
-
 // From two lists with the same planes. invisible_main has such a call too, with one list in use and a sample for its answer: what they share is the call.
 fn block(b: EvcBlock, poc: u32, luma: &[u16], chroma: &[u16]) -> Result<ListsMoved, Refusal> {
     let mut pred0 = [0; PRED_LEN];
@@ -73,14 +65,12 @@ fn block(b: EvcBlock, poc: u32, luma: &[u16], chroma: &[u16]) -> Result<ListsMov
         v: chroma,
     };
     let l0 = RefPicList {
-        list: list_of(0),
+        mv: EvcMv::default(),
+        poc: 0,
         planes,
     };
-    let l1 = RefPicList {
-        list: list_of(poc),
-        planes,
-    };
-    evc_mc::evc_mc2(b, &l0, &l1, &mut pred0, &mut pred1)
+    let l1 = RefPicList { poc, ..l0 };
+    evc_mc::evc_mc2(b, Some(&l0), Some(&l1), &mut pred0, &mut pred1)
 }
 
 // ---- what is printed

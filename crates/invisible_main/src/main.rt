@@ -6,7 +6,7 @@
 
 use evc_clip::{EvcClipped, EvcMoved};
 use evc_def::{EvcBlock, EvcMv};
-use evc_mc::{EvcList, PRED_LEN, Planes, RefPicList};
+use evc_mc::{PRED_LEN, Planes, RefPicList};
 use evc_plane::PlaneType;
 use std::alloc::{AllocError, Global};
 use std::{fmt, io};
@@ -31,10 +31,6 @@ fn get(samples: &[u16], at: usize) -> u16 {
     samples.get(at).copied().unwrap_or(OLD)
 }
 
-fn list_of(used: bool, mv: EvcMv) -> EvcList {
-    EvcList { used, mv, poc: 0 }
-}
-
 // List 0 alone is in use. edges_main has such a call too, with two lists and a number for its answer: what they share is the call.
 fn block(b: EvcBlock, mv: EvcMv, at: usize, luma: &[u16], chroma: &[u16]) -> u16 {
     let mut pred0 = [OLD; PRED_LEN];
@@ -44,15 +40,8 @@ fn block(b: EvcBlock, mv: EvcMv, at: usize, luma: &[u16], chroma: &[u16]) -> u16
         u: chroma,
         v: chroma,
     };
-    let l0 = RefPicList {
-        list: list_of(true, mv),
-        planes,
-    };
-    let l1 = RefPicList {
-        list: list_of(false, mv),
-        planes,
-    };
-    let _ = evc_mc::evc_mc2(b, &l0, &l1, &mut pred0, &mut pred1);
+    let l0 = RefPicList { mv, poc: 0, planes };
+    let _ = evc_mc::evc_mc2(b, Some(&l0), None, &mut pred0, &mut pred1);
     get(&pred0, at)
 }
 
