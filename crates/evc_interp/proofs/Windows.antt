@@ -11,9 +11,8 @@ use native.Mathlib.Omega.{arith}
 use lib.Dec.{T, eqb, ltb, eqb→eq}
 use lib.IntN.{ℤ, pos, ◌+ℤ◌}
 use lib.ListN.{length, get_or}
-use lib.Signed.{lt_z}
 use borrow.Author.Tests.{ltb-false}
-use Rattle.evc_int.specs.Whole.{−◌, ◌⁺, ◌⁻, clip3}
+use Rattle.evc_int.specs.Whole.{−◌, ◌⁺, clip3}
 use Rattle.evc_int.specs.Lists.{with_block}
 use Rattle.std.proofs.lemmas.Bool.{and_parts, or_parts, not-false}
 use Rattle.evc_int.proofs.Whole.{parts_are}
