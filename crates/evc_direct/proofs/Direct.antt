@@ -7,7 +7,7 @@ use borrow.Author.Tests.{ne_eqb, ltb-false}
 use lib.Dec.{ltb}
 use lib.IntN.{ℤ, pos}
 use lib.ListN.{length}
-use Rattle.evc_int.proofs.Bools.{none_true}
+use Rattle.std.proofs.lemmas.Bool.{or_parts}
 use Rattle.evc_def.specs.Blocks.{max_poc}
 use Rattle.evc_def.specs.Codes.{first_of}
 use Rattle.evc_def.specs.declared.EvcBlock.{EvcBlock}
@@ -24,9 +24,9 @@ use Rattle.evc_direct.specs.declared.Pocs.{Pocs}
 pub counts : (p : Pocs) → poc_too_large p ≡ false → (p.poc ≤ max_poc) × (p.poc0 ≤ max_poc) × (p.poc1 ≤ max_poc) × (p.list_poc0 ≤ max_poc)
 unfolding poc_too_large
 counts p e =
-    let f = none_true (ltb max_poc p.poc || ltb max_poc p.poc0 || ltb max_poc p.poc1) (ltb max_poc p.list_poc0) e in
-    let g = none_true (ltb max_poc p.poc || ltb max_poc p.poc0) (ltb max_poc p.poc1) f.0 in
-    let h = none_true (ltb max_poc p.poc) (ltb max_poc p.poc0) g.0 in
+    let f = or_parts (ltb max_poc p.poc || ltb max_poc p.poc0 || ltb max_poc p.poc1) (ltb max_poc p.list_poc0) e in
+    let g = or_parts (ltb max_poc p.poc || ltb max_poc p.poc0) (ltb max_poc p.poc1) f.0 in
+    let h = or_parts (ltb max_poc p.poc) (ltb max_poc p.poc0) g.0 in
     (ltb-false _ _ h.0, ltb-false _ _ h.1, ltb-false _ _ g.1, ltb-false _ _ f.1)
 
 module _ (b : EvcBlock) (p : Pocs) (has : Bool) (col : List ℤ) where

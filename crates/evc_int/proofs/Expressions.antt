@@ -3,12 +3,11 @@
 -- these are for products of two variables, and where an expression has to be cut in parts. Assumes nothing.
 --   solve (! x ⊕ ! y) (! y ⊕ ! x) (omega arith)
 use mathlib.Core.Path.{◌≡◌, ap}
-use Prim.Native.Nat.{ℕ, ◌+◌, ◌*◌, ◌-◌}
+use Prim.Native.Nat.{ℕ, ◌+◌, ◌*◌}
 use native.Mathlib.Omega.{arith}
 use lib.IntN.{ℤ, neg_ℤ, ◌+ℤ◌, ◌-ℤ◌, ◌*ℤ◌}
-use lib.Signed.{lt_z}
 use Rattle.evc_int.specs.Whole.{◌⁺, ◌⁻}
-use Rattle.evc_int.proofs.Whole.{Is, of, is-+, is--, is-*, is_neg, same, parts, Tested, tested}
+use Rattle.evc_int.proofs.Whole.{Is, of, is-+, is--, is-*, is_neg, same}
 
 infixl 6 ◌⊕◌ ◌⊖◌
 infixl 7 ◌⊗◌
@@ -54,9 +53,3 @@ solve e f h = same (reading e) (reading f) h
 
 pub fact : (e f : Ex) → value e ≡ value f → more e + less f ≡ more f + less e
 fact e f h = let p = reading e in let q = reading f in omega (arith, ap (λ (z : ℤ). z ⁺) h, ap (λ (z : ℤ). z ⁻) h)
-
-pub part⁺ : (e : Ex) → value e ⁺ ≡ more e - less e
-part⁺ e = (parts (reading e)).0
-
-pub tested_ex : (e f : Ex) → Tested (more e + less f) (more f + less e) (lt_z (value e) (value f))
-tested_ex e f = tested (reading e) (reading f)

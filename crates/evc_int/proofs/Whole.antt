@@ -2,11 +2,10 @@
 -- A term of ℤ is read by a tree of the lemmas `is-..`, one for each operation; what is left is a fact of naturals. Assumes nothing.
 use mathlib.Core.Bool.{Bool, true, false}
 use mathlib.Core.Path.{◌≡◌, refl, sym, ap, subst}
-use Prim.Native.Nat.{ℕ, zero, suc, ◌+◌, ◌-◌, ◌*◌, ◌≤◌, ◌<◌}
+use Prim.Native.Nat.{ℕ, zero, suc, ◌+◌, ◌-◌, ◌*◌, ◌≤◌}
 use native.Mathlib.Omega.{arith}
 use native.Mathlib.Nat.{mul-le-mul}
 use lib.IntN.{ℤ, pos, negsuc, neg_ℤ, ◌+ℤ◌, ◌-ℤ◌, ◌*ℤ◌, nat_abs}
-use lib.Signed.{lt_z}
 use borrow.Author.Differences.{up, down}
 use Rattle.std.proofs.lemmas.Int.{ints}
 use borrow.Author.Tests.{eq-eqb}
@@ -107,20 +106,6 @@ int_eq_is x y = go (int_eq x y) (eq_z x y) (signed_Decides x y) (eq_z-true x y) 
 -- the two parts of a number, by differences that stop at 0
 pub parts : {z : ℤ} {a b : ℕ} → Is z a b → (z ⁺ ≡ a - b) × (z ⁻ ≡ b - a)
 parts p = omega (arith, parts_are)
-
--- ---- tests: what the flag t of a test a < b says
-
-pub data Tested (a b : ℕ) : Bool → Type 0 where
-  under : a < b → Tested a b true
-  not_under : b ≤ a → Tested a b false
-
-module _ {x y : ℤ} {a b c d : ℕ} (p : Is x a b) (q : Is y c d) where
-  pub tested : Tested (a + d) (c + b) (lt_z x y)
-  tested = go (lt_z x y) refl
-    where
-      go : (t : Bool) → lt_z x y ≡ t → Tested (a + d) (c + b) t
-      go true e = under (omega (arith, parts_are))
-      go false e = not_under (omega (arith, parts_are))
 
 -- ---- sizes, for what is not linear
 

@@ -9,7 +9,7 @@ use lib.Dec.{ltb}
 use lib.ListN.{length}
 use borrow.Author.Tests.{ne_eqb}
 use Rattle.evc_int.specs.Lists.{with_block}
-use Rattle.evc_int.proofs.Bools.{all_true}
+use Rattle.std.proofs.lemmas.Bool.{and_parts, not-false}
 use Rattle.evc_def.specs.Blocks.{bad_picture}
 use Rattle.evc_def.specs.declared.EvcMv.{EvcMv}
 use Rattle.evc_def.specs.declared.QpelPlace.{QpelPlace}
@@ -41,7 +41,7 @@ module _ (k : PlaneType) (W H : ℕ) (gmv : QpelPlace) (w h : ℕ) (s d : List �
 
 -- the sides of a block that is not refused with 2
 pub size : (k : PlaneType) (w h : ℕ) → not (is_side k w && is_side k h) ≡ false → w * h ≤ 4096
-size k w h e = let t = all_true (is_side k w) (is_side k h) e in mul-le-mul (side k w t.0).small (side k h t.1).small
+size k w h e = let t = and_parts (is_side k w) (is_side k h) (not-false _ e) in mul-le-mul (side k w t.0).small (side k h t.1).small
 
 module _ (k : PlaneType) (W H : ℕ) (ori : EvcMv) (gmv : QpelPlace) (w h : ℕ) (s d : List ℕ) where
   pub untouched : (n : ℕ) → 0 < n → n ≡ mc_plane_code k W H gmv w h s d → (n ≡ mc_plane_code k W H gmv w h s d) × (d ≡ mc_plane_after k W H ori gmv w h s d)

@@ -11,13 +11,11 @@ use native.Mathlib.Omega.{arith}
 use lib.Dec.{T, eqb, ltb, eqb→eq}
 use lib.IntN.{ℤ, pos, ◌+ℤ◌}
 use lib.ListN.{length, get_or}
-use lib.Signed.{lt_z}
 use borrow.Author.Tests.{ltb-false}
-use Rattle.evc_int.specs.Whole.{−◌, ◌⁺, ◌⁻, clip3}
+use Rattle.evc_int.specs.Whole.{−◌, ◌⁺, clip3}
 use Rattle.evc_int.specs.Lists.{with_block}
-use Rattle.evc_int.proofs.Bools.{all_true, none_true}
-use Rattle.evc_int.proofs.Whole.{Tested, under, not_under}
-use Rattle.evc_int.proofs.Expressions.{ !, ◌⊕◌, neg, part⁺, tested_ex}
+use Rattle.std.proofs.lemmas.Bool.{and_parts, or_parts, not-false}
+use Rattle.evc_int.proofs.Whole.{parts_are}
 use Rattle.evc_int.proofs.Division.{modulo_lt}
 use Rattle.evc_int.proofs.Lists.{with_block-ext}
 use Rattle.evc_def.specs.Blocks.{bad_picture}
@@ -81,20 +79,13 @@ side UV n e = one_of (Side UV) n 2 4 8 16 32 e (of 2 (omega arith) (omega arith)
 module _ (o n : ℕ) where
   start_min : (z : ℤ) → start_at o n z ≡ min ((z +ℤ pos o) ⁺) (o + n)
   unfolding start_at clip3
-  start_min z = go (lt_z z (− o)) (lt_z (pos n) z) (tested_ex (! z) (neg (! (pos o)))) (tested_ex (! (pos n)) (! z))
-    where
-      go : (a b : Bool) → Tested (z ⁺ + o) (0 + z ⁻) a → Tested (n + z ⁻) (z ⁺ + 0) b → (cond a (− o) (cond b (pos n) z) +ℤ pos o) ⁺ ≡ min ((z +ℤ pos o) ⁺) (o + n)
-      go true b (under x) y = omega (arith, part⁺ (neg (! (pos o)) ⊕ ! (pos o)), part⁺ (! z ⊕ ! (pos o)))
-      go false true (not_under x) (under y) = omega (arith, part⁺ (! (pos n) ⊕ ! (pos o)), part⁺ (! z ⊕ ! (pos o)))
-      go false false (not_under x) (not_under y) = omega (arith, part⁺ (! z ⊕ ! (pos o)))
+  start_min z = grind (arith, parts_are)
 
   nearer : (z : ℤ) (l m : ℕ) → m ≤ l → (start_at o n (z +ℤ (− l)) ≤ start_at o n (z +ℤ (− m))) × (start_at o n (z +ℤ (− m)) + m ≤ start_at o n (z +ℤ (− l)) + l)
   nearer z l m h =
       let a = start_min (z +ℤ (− l)) in
       let b = start_min (z +ℤ (− m)) in
-      let p = part⁺ (! z ⊕ neg (! (pos l)) ⊕ ! (pos o)) in
-      let q = part⁺ (! z ⊕ neg (! (pos m)) ⊕ ! (pos o)) in
-      (omega arith, omega arith)
+      (omega (arith, parts_are), omega (arith, parts_are))
 
   -- a path's start, from that of both directions
   path_start : (k : PlaneType) (b : Bool) (z : ℤ) → (start_at o n (start_of k true z) ≤ start_at o n (start_of k b z)) × (start_at o n (start_of k b z) + cond b (lead k) 0 ≤ start_at o n (start_of k true z) + lead k)
@@ -129,8 +120,8 @@ accepts k W H gmv w h s d e =
     let b = accepted _ _ _ (omega arith) a.1 in
     let c = accepted _ _ _ (omega arith) b.1 in
     let f = accepted _ _ _ (omega arith) c.1 in
-    let t = all_true (is_side k w) (is_side k h) b.0 in
-    let l = none_true (ltb (length s) (plane_len k W H)) (ltb (length d) (w * h)) c.0 in
+    let t = and_parts (is_side k w) (is_side k h) (not-false _ b.0) in
+    let l = or_parts (ltb (length s) (plane_len k W H)) (ltb (length d) (w * h)) c.0 in
     record {
       picture = a.0;
       w_side = side k w t.0;

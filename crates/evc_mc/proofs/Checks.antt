@@ -9,8 +9,8 @@ use lib.Dec.{T, ltb, eqb, eqb→eq}
 use lib.ListN.{length}
 use borrow.Author.Tests.{ltb-false, le-ltb, not-false}
 use mathlib.Core.Logic.{⊎_elim}
-use Rattle.std.proofs.lemmas.Bool.{and_from, or_from}
-use Rattle.evc_int.proofs.Bools.{both_true, all_true, none_true, and_false_right}
+use Rattle.std.proofs.lemmas.Bool.{and_from, or_from, and_parts, or_parts, not-false}
+use Rattle.evc_int.proofs.Bools.{and_false_right}
 use Rattle.evc_def.specs.Blocks.{is_block_side, is_inside, bad_picture, bad_block}
 use Rattle.evc_def.specs.Codes.{◌when◌, first_of, block_checks}
 use Rattle.evc_def.specs.declared.EvcBlock.{EvcBlock}
@@ -39,9 +39,9 @@ unfolding bad_block
 sides b e =
     let f = accepted 1 _ _ (omega arith) e in
     let g = accepted 2 _ _ (omega arith) f.1 in
-    let p = all_true (is_block_side b.w && is_block_side b.h && is_inside b.pic_w b.x b.w) (is_inside b.pic_h b.y b.h) g.0 in
-    let q = both_true (is_block_side b.w && is_block_side b.h) (is_inside b.pic_w b.x b.w) p.0 in
-    let r = both_true (is_block_side b.w) (is_block_side b.h) q.0 in
+    let p = and_parts (is_block_side b.w && is_block_side b.h && is_inside b.pic_w b.x b.w) (is_inside b.pic_h b.y b.h) (not-false _ g.0) in
+    let q = and_parts (is_block_side b.w && is_block_side b.h) (is_inside b.pic_w b.x b.w) p.0 in
+    let r = and_parts (is_block_side b.w) (is_block_side b.h) q.0 in
     let k = allowed_block b e in
     record { picture = f.0; w_side = r.0; h_side = r.1; w_high = k.0.side_high; h_high = k.1.side_high }
 
@@ -86,18 +86,18 @@ module _ (b : EvcBlock) (l : RefPicList) (u : l.list.used ≡ true) where
   list_long e = go (and_false_right l.list.used _ e u)
     where
       go : (plane_short b Y l.y || plane_short b UV l.u || plane_short b UV l.v) ≡ false → (c : Component) → plane_len (type_of c) b.pic_w b.pic_h ≤ length (plane_of c l)
-      go e luma = ltb-false _ _ (none_true _ (plane_short b UV l.u) (none_true _ (plane_short b UV l.v) e).0).0
-      go e cb = ltb-false _ _ (none_true (plane_short b Y l.y) _ (none_true _ (plane_short b UV l.v) e).0).1
-      go e cr = ltb-false _ _ (none_true (plane_short b Y l.y || plane_short b UV l.u) _ e).1
+      go e luma = ltb-false _ _ (or_parts _ (plane_short b UV l.u) (or_parts _ (plane_short b UV l.v) e).0).0
+      go e cb = ltb-false _ _ (or_parts (plane_short b Y l.y) _ (or_parts _ (plane_short b UV l.v) e).0).1
+      go e cr = ltb-false _ _ (or_parts (plane_short b Y l.y || plane_short b UV l.u) _ e).1
 
   pub list_small : list_exceeds b l ≡ false → (c : Component) → component_exceeds b l c ≡ false
   unfolding list_exceeds
   list_small e = go (and_false_right l.list.used _ e u)
     where
       go : (component_exceeds b l luma || component_exceeds b l cb || component_exceeds b l cr) ≡ false → (c : Component) → component_exceeds b l c ≡ false
-      go e luma = (none_true _ (component_exceeds b l cb) (none_true _ (component_exceeds b l cr) e).0).0
-      go e cb = (none_true (component_exceeds b l luma) _ (none_true _ (component_exceeds b l cr) e).0).1
-      go e cr = (none_true (component_exceeds b l luma || component_exceeds b l cb) _ e).1
+      go e luma = (or_parts _ (component_exceeds b l cb) (or_parts _ (component_exceeds b l cr) e).0).0
+      go e cb = (or_parts (component_exceeds b l luma) _ (or_parts _ (component_exceeds b l cr) e).0).1
+      go e cr = (or_parts (component_exceeds b l luma || component_exceeds b l cb) _ e).1
 
 pub list_examined : (b : EvcBlock) (l : RefPicList) (gmv : QpelPlace) → list_short b l ≡ false → list_exceeds b l ≡ false → gmv ≡ clipped_place b l.list.mv → ListExamined b gmv l
 list_examined b l gmv e f p u c =
@@ -129,10 +129,10 @@ accepts b l m p q e =
     let four = accepted 4 _ _ (omega arith) three.1 in
     let five = accepted 5 _ _ (omega arith) four.1 in
     let six = accepted 6 _ _ (omega arith) five.1 in
-    let h = none_true (list_short b l || list_short b m || ltb (length p) pred_len) (ltb (length q) pred_len) four.0 in
-    let i = none_true (list_short b l || list_short b m) (ltb (length p) pred_len) h.0 in
-    let j = none_true (list_short b l) (list_short b m) i.0 in
-    let k = none_true (list_exceeds b l) (list_exceeds b m) six.0 in
+    let h = or_parts (list_short b l || list_short b m || ltb (length p) pred_len) (ltb (length q) pred_len) four.0 in
+    let i = or_parts (list_short b l || list_short b m) (ltb (length p) pred_len) h.0 in
+    let j = or_parts (list_short b l) (list_short b m) i.0 in
+    let k = or_parts (list_exceeds b l) (list_exceeds b m) six.0 in
     record {
       block = f.0;
       some_used = not-false (l.list.used || m.list.used) three.0;

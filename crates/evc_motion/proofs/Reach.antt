@@ -10,7 +10,8 @@ use lib.Dec.{eqb}
 use lib.IntN.{ℤ}
 use Rattle.std.proofs.Common.{Option, IfSome}
 use Rattle.std.specs.Bool.{then_some}
-use Rattle.evc_int.proofs.Bools.{none_true, and_false_right}
+use Rattle.std.proofs.lemmas.Bool.{or_parts}
+use Rattle.evc_int.proofs.Bools.{and_false_right}
 use Rattle.evc_def.specs.Blocks.{Allowed}
 use Rattle.evc_def.specs.Tables.{is_bit}
 use Rattle.evc_def.specs.declared.EvcBlock.{EvcBlock}
@@ -22,20 +23,20 @@ module _ (b : EvcBlock) (map : ℕ) (has : Bool) (col : ℕ) (e : maps_short b m
   pub map_reaches : (n : ℕ) → n < units_of b.pic_w b.pic_h → mv_len * n + mv_len ≤ map
   unfolding maps_short
   map_reaches n below =
-      let f = (none_true (map_short b.pic_w b.pic_h map) (has && map_short b.pic_w b.pic_h col) e).0 in
+      let f = (or_parts (map_short b.pic_w b.pic_h map) (has && map_short b.pic_w b.pic_h col) e).0 in
       let l = ltb-false map _ f in
       omega arith
 
   pub col_reaches : (n : ℕ) → n < units_of b.pic_w b.pic_h → has ≡ true → mv_len * n + mv_len ≤ col
   unfolding maps_short
   col_reaches n below t =
-      let f = (none_true (map_short b.pic_w b.pic_h map) (has && map_short b.pic_w b.pic_h col) e).1 in
+      let f = (or_parts (map_short b.pic_w b.pic_h map) (has && map_short b.pic_w b.pic_h col) e).1 in
       let l = ltb-false col _ (and_false_right has (map_short b.pic_w b.pic_h col) f t) in
       omega arith
 
   pub no_col_short : (has && map_short b.pic_w b.pic_h col) ≡ false
   unfolding maps_short
-  no_col_short = (none_true (map_short b.pic_w b.pic_h map) (has && map_short b.pic_w b.pic_h col) e).1
+  no_col_short = (or_parts (map_short b.pic_w b.pic_h map) (has && map_short b.pic_w b.pic_h col) e).1
 
 -- a place that is not 0 is at least one unit in
 one_unit : (size place side : ℕ) → Allowed size place side → (place ≡ 0 → ⊥) → 1 ≤ place / 4
@@ -49,8 +50,8 @@ module _ (b : EvcBlock) (avail : ℕ) (p : Allowed b.pic_w b.x b.w) (q : Allowed
   cases : ((is_bit 1 avail && eqb b.x 0) ≡ false) × ((is_bit 0 avail && eqb b.y 0) ≡ false) × ((is_bit 6 avail && (eqb b.y 0 || eqb (b.x + b.w) b.pic_w)) ≡ false)
   unfolding flag_outside
   cases =
-      let f = none_true ((is_bit 1 avail && eqb b.x 0) || (is_bit 0 avail && eqb b.y 0)) (is_bit 6 avail && (eqb b.y 0 || eqb (b.x + b.w) b.pic_w)) e in
-      let g = none_true (is_bit 1 avail && eqb b.x 0) (is_bit 0 avail && eqb b.y 0) f.0 in
+      let f = or_parts ((is_bit 1 avail && eqb b.x 0) || (is_bit 0 avail && eqb b.y 0)) (is_bit 6 avail && (eqb b.y 0 || eqb (b.x + b.w) b.pic_w)) e in
+      let g = or_parts (is_bit 1 avail && eqb b.x 0) (is_bit 0 avail && eqb b.y 0) f.0 in
       (g.0, g.1, f.1)
 
   pub left_before : is_bit 1 avail ≡ true → 1 ≤ scup b
@@ -68,7 +69,7 @@ module _ (b : EvcBlock) (avail : ℕ) (p : Allowed b.pic_w b.x b.w) (q : Allowed
 
   pub up_right_before : is_bit 6 avail ≡ true → w_scu b ≤ scup b
   up_right_before t =
-      row_before (none_true (eqb b.y 0) (eqb (b.x + b.w) b.pic_w) (and_false_right (is_bit 6 avail) (eqb b.y 0 || eqb (b.x + b.w) b.pic_w) cases.2 t)).0
+      row_before (or_parts (eqb b.y 0) (eqb (b.x + b.w) b.pic_w) (and_false_right (is_bit 6 avail) (eqb b.y 0 || eqb (b.x + b.w) b.pic_w) cases.2 t)).0
 
 -- the unit matters only where the flag is set
 pub same_neighbour : (map : List ℤ) (lidx : ℕ) (flagged : Bool) (m n : ℕ) → (flagged ≡ true → m ≡ n) → neighbour map lidx flagged m ≡ neighbour map lidx flagged n

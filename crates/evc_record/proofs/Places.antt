@@ -18,7 +18,7 @@ use Rattle.evc_plane.specs.declared.PlaneType.{PlaneType}
 use Rattle.evc_plane.specs.declared.PlaneType.TheVariants.{Y, UV}
 use Rattle.evc_plane.specs.declared.PlaneConfig.{PlaneConfig}
 use Rattle.evc_plane.proofs.Sizes.{Room, room, sizes_of}
-use Rattle.evc_int.proofs.Bools.{none_true}
+use Rattle.std.proofs.lemmas.Bool.{or_parts}
 use Rattle.evc_int.proofs.Lists.{with_row-ext, with_block-ext, length-with_block}
 use Rattle.evc_mc.specs.Block.{Component, type_of, width_of, height_of, offset_of, pred_len}
 use Rattle.evc_mc.specs.Inner.{block_sample}
@@ -100,8 +100,8 @@ row_copied s r l k at w to e p = p ∙ with_row-ext l to w _ _ (λ x _. ap (λ (
 pub long_enough : (W H : ℕ) (p : Planes) → picture_short W H p ≡ false → (plane_len Y W H ≤ length p.y) × (plane_len UV W H ≤ length p.u) × (plane_len UV W H ≤ length p.v)
 unfolding picture_short
 long_enough W H p e =
-    let f = none_true (ltb (length p.y) (plane_len Y W H) || ltb (length p.u) (plane_len UV W H)) (ltb (length p.v) (plane_len UV W H)) e in
-    let g = none_true (ltb (length p.y) (plane_len Y W H)) (ltb (length p.u) (plane_len UV W H)) f.0 in
+    let f = or_parts (ltb (length p.y) (plane_len Y W H) || ltb (length p.u) (plane_len UV W H)) (ltb (length p.v) (plane_len UV W H)) e in
+    let g = or_parts (ltb (length p.y) (plane_len Y W H)) (ltb (length p.u) (plane_len UV W H)) f.0 in
     (ltb-false _ _ g.0, ltb-false _ _ g.1, ltb-false _ _ f.1)
 
 pub still_long : (W H : ℕ) (p q : Planes) → length q.y ≡ length p.y → length q.u ≡ length p.u → length q.v ≡ length p.v → picture_short W H p ≡ false → picture_short W H q ≡ false

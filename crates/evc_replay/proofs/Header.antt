@@ -7,7 +7,7 @@ use native.Mathlib.Omega.{arith}
 use borrow.Author.Tests.{ne_eqb, lt-ltb, le-ltb, ltb-false}
 use lib.IntN.{ℤ}
 use lib.ListN.{length}
-use Rattle.evc_int.proofs.Bools.{none_true}
+use Rattle.std.proofs.lemmas.Bool.{or_parts}
 use Rattle.evc_def.specs.Blocks.{bad_picture}
 use Rattle.evc_def.specs.Codes.{first_of, picture_checks}
 use Rattle.evc_def.specs.Refusals.{number_of}
@@ -68,8 +68,8 @@ module _ (s : List ℕ) (p q : Planes) (has : Bool) (col : List ℤ) (t : Planes
       let d = accepted 4 _ _ (omega arith) c.1 in
       let W = (header_of 2 s).pic_w in
       let H = (header_of 2 s).pic_h in
-      let f = none_true (picture_short W H p || picture_short W H q || picture_short W H t) (has && map_short W H (length col)) d.0 in
-      (ltb-false _ _ a.0, (none_true (picture_short W H p || picture_short W H q) (picture_short W H t) f.0).1)
+      let f = or_parts (picture_short W H p || picture_short W H q || picture_short W H t) (has && map_short W H (length col)) d.0 in
+      (ltb-false _ _ a.0, (or_parts (picture_short W H p || picture_short W H q) (picture_short W H t) f.0).1)
 
   pub not_begun : (c : ℕ) → c ≡ header_code s p q has col t → (c ≡ 0 → ⊥) → record { answer = record { code = c; index = 0 }; target = t } ≡ replayed s p q has col t
   unfolding replayed

@@ -8,7 +8,7 @@ use lib.Dec.{T, eqb, eqb→eq}
 use lib.ListN.{length, length-append, get_or, take, drop}
 use lib.Seq.{get_or_at}
 use borrow.Author.Tests.{eq-eqb, not-false, le-ltb}
-use Rattle.evc_int.proofs.Bools.{both_true, all_true}
+use Rattle.std.proofs.lemmas.Bool.{and_parts, not-false}
 use Rattle.evc_def.specs.Blocks.{bad_picture}
 use Rattle.evc_def.proofs.Codes.{accepted, passed, none}
 use Rattle.evc_bytes.specs.Bytes.{bytes_of, number_at}
@@ -38,9 +38,9 @@ header_read v n h rest hv f =
 header_rewritten : HeaderRewritten
 unfolding is_trace header_of
 header_rewritten v n s b l m =
-    let m₃ = both_true (eqb (get_or s 0 0) 73 && eqb (get_or s 1 0) 80 && eqb (get_or s 2 0) 84) (eqb (number_at 2 s 3) v) m in
-    let m₂ = both_true (eqb (get_or s 0 0) 73 && eqb (get_or s 1 0) 80) (eqb (get_or s 2 0) 84) m₃.0 in
-    let m₁ = both_true (eqb (get_or s 0 0) 73) (eqb (get_or s 1 0) 80) m₂.0 in
+    let m₃ = and_parts (eqb (get_or s 0 0) 73 && eqb (get_or s 1 0) 80 && eqb (get_or s 2 0) 84) (eqb (number_at 2 s 3) v) m in
+    let m₂ = and_parts (eqb (get_or s 0 0) 73 && eqb (get_or s 1 0) 80) (eqb (get_or s 2 0) 84) m₃.0 in
+    let m₁ = and_parts (eqb (get_or s 0 0) 73) (eqb (get_or s 1 0) 80) m₂.0 in
     let e₅ = join s _ _ 9 n n (number_back s b n 9 (omega arith)) (number_back s b n (9 + n) (omega arith)) in
     let e₄ = join s _ _ 7 2 (n + n) (number_back s b 2 7 (omega arith)) e₅ in
     let e₃ = join s _ _ 5 2 (2 + (n + n)) (number_back s b 2 5 (omega arith)) e₄ in
@@ -140,7 +140,7 @@ form_tested : (s : List ℕ) → form_code s ≡ 0 → (is_well_formed (record_o
 unfolding form_code
 form_tested s e =
     let f = accepted 11 _ _ (omega arith) e in
-    let g = all_true (is_well_formed (record_of count_len s)) (eqb (last_byte count_len s) 0) (accepted 12 _ _ (omega arith) f.1).0 in
+    let g = and_parts (is_well_formed (record_of count_len s)) (eqb (last_byte count_len s) 0) (not-false _ (accepted 12 _ _ (omega arith) f.1).0) in
     (g.0, eqb→eq _ 0 (subst T (sym g.1) tt))
 
 form_passes : (s : List ℕ) → 22 ≤ length s → is_well_formed (record_of count_len s) ≡ true → last_byte count_len s ≡ 0 → form_code s ≡ 0

@@ -4,7 +4,7 @@ use mathlib.Core.Bool.{Bool, not, ◌&&◌}
 use native.Mathlib.Nat.{mul_comm}
 use native.Mathlib.Omega.{arith}
 use borrow.Author.Tests.{ltb-false}
-use Rattle.evc_int.proofs.Bools.{none_true}
+use Rattle.std.proofs.lemmas.Bool.{or_parts}
 use Rattle.evc_plane.specs.declared.PlaneType.{PlaneType}
 use Prim.Native.Nat.{ℕ}
 use Rattle.evc_interp.specs.Prediction.{is_side}
@@ -32,7 +32,7 @@ returns-then-is_short c =
     record { value = parts.0; pred_after = parts.1 }
 
 pub exceeds-requires : goal.exceeds-requires
-exceeds-requires c = ltb-false _ _ (none_true _ _ (sym c.is_short.ensures ∙ c.if-is_short.false)).0
+exceeds-requires c = ltb-false _ _ (or_parts _ _ (sym c.is_short.ensures ∙ c.if-is_short.false)).0
 
 pub returns-then-exceeds : goal.returns-then-exceeds
 returns-then-exceeds c =

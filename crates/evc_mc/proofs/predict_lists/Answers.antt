@@ -4,7 +4,8 @@ use mathlib.Core.Path.{◌≡◌, refl, sym, ap₂, ◌∙◌}
 use Rattle.std.specs.Prelude.{Option, Some, None}
 use Rattle.std.specs.Option.{is_some}
 use Rattle.std.specs.Borrow.{Bor}
-use Rattle.evc_int.proofs.Bools.{both_true, and_false_right}
+use Rattle.std.proofs.lemmas.Bool.{and_parts}
+use Rattle.evc_int.proofs.Bools.{and_false_right}
 use Rattle.evc_mc.specs.Lent.{lent_list}
 use Rattle.evc_mc.specs.declared.RefPicList.{RefPicList as LentList}
 use Rattle.evc_mc.proofs.Checks.{sides, list_examined}
@@ -37,9 +38,9 @@ returns-then-same_motion c =
     let b = a.block.given in
     let l = lent_list a.list in
     let m = lent_list c.args.l1.now.list in
-    let t = both_true (l.list.used && m.list.used) _ (sym c.same_motion.ensures ∙ c.if-same_motion.true) in
+    let t = and_parts (l.list.used && m.list.used) _ (sym c.same_motion.ensures ∙ c.if-same_motion.true) in
     let alike = sym (same_motion_is b l.list m.list _ _ _ a.clipped (simp (sym c.requires.same_block) at c.args.l1.now.clipped) refl) ∙ t.1 in
-    let parts = stands b l m _ _ _ _ c.predict.ensures.pred0_after c.predict.ensures.pred1_after (both_true _ _ t.0).0 (same _ _ _ alike) in
+    let parts = stands b l m _ _ _ _ c.predict.ensures.pred0_after c.predict.ensures.pred1_after (and_parts _ _ t.0).0 (same _ _ _ alike) in
     record { pred0_after = parts.0; pred1_after = parts.1 }
 
 -- one list is in use
@@ -62,7 +63,7 @@ average_block-requires-clause-block_small c =
     let g = c.requires.accepted in
     let p = c.predict.ensures in
     let e = sym c.requires.same_block in
-    let t = both_true _ _ (both_used a.list n.list _ _ _ c.is_some.ensures c.is_some-2.ensures c.if-is_some.true) in
+    let t = and_parts _ _ (both_used a.list n.list _ _ _ c.is_some.ensures c.is_some-2.ensures c.if-is_some.true) in
     both_small a.block.given (lent_list a.list) (lent_list n.list) _ _ _ _ p.pred0_after p.pred1_after _ _ _ c.leaves_empty.ensures
     (simp e at c.predict-2.ensures.pred0_after) (simp e at c.predict-2.ensures.pred1_after) t.0 t.1
     (sides _ g.block) g.p_long g.q_long g.block g.l_short g.l_exceeds g.m_short g.m_exceeds
@@ -78,7 +79,7 @@ returns-then-is_some c =
     let p = c.predict.ensures in
     let e = sym c.requires.same_block in
     let both = both_used a.list n.list _ _ _ c.is_some.ensures c.is_some-2.ensures c.if-is_some.true in
-    let t = both_true _ _ both in
+    let t = and_parts _ _ both in
     let differs = sym (same_motion_is b l.list m.list _ _ _ a.clipped (simp e at n.clipped) refl)
     ∙ and_false_right (l.list.used && m.list.used) _ (sym c.same_motion.ensures ∙ c.if-same_motion.false) both in
     let parts = averaged b l m _ _ _ _ p.pred0_after p.pred1_after _ _ _ c.leaves_empty.ensures

@@ -4,7 +4,7 @@ use mathlib.Core.Path.{◌≡◌, refl, sym, ◌∙◌}
 use Prim.Native.Nat.{ℕ, ◌+◌}
 use borrow.Author.Tests.{not-true}
 use lib.Dec.{eqb}
-use Rattle.evc_int.proofs.Bools.{both_true}
+use Rattle.std.proofs.lemmas.Bool.{and_parts}
 use Rattle.evc_def.specs.Tables.{is_bit}
 use Rattle.evc_def.specs.declared.EvcBlock.{EvcBlock}
 use Rattle.evc_motion.specs.Candidates.{flag_outside}
@@ -18,8 +18,8 @@ module _ (b : EvcBlock) (avail : ℕ) (right : Bool) (e : right ≡ not (eqb (b.
   inner : (not (eqb b.x 0) && not (eqb b.y 0) && right) ≡ true → false ≡ flag_outside b avail
   unfolding flag_outside
   inner t =
-      let p = both_true (not (eqb b.x 0) && not (eqb b.y 0)) right t in
-      let q = both_true (not (eqb b.x 0)) (not (eqb b.y 0)) p.0 in
+      let p = and_parts (not (eqb b.x 0) && not (eqb b.y 0)) right t in
+      let q = and_parts (not (eqb b.x 0)) (not (eqb b.y 0)) p.0 in
       rw (not-true (eqb b.x 0) q.0, not-true (eqb b.y 0) q.1, not-true (eqb (b.x + b.w) b.pic_w) (sym e ∙ p.1)) (simp and-false)
 
   at_edge : (le up up-ri : Bool) → le ≡ is_bit 1 avail → up ≡ is_bit 0 avail → up-ri ≡ is_bit 6 avail → ((le && eqb b.x 0) || (up && eqb b.y 0) || (up-ri && (eqb b.y 0 || not right))) ≡ flag_outside b avail
