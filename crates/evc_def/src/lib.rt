@@ -211,7 +211,7 @@ impl Qpel {
         (to.0 - self.0) as i16
     }
 
-    // EVC_CLIP3
+    // EVC_CLIP3. The library's `clamp` asks that min is at most max, which callers need not give here.
     pub fn clip3(self, min: Qpel, max: Qpel) -> Qpel
         ensures { result.0 ≡ clip3 min.0 max.0 self.0 }
     {

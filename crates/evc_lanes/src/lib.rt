@@ -6,7 +6,7 @@ ghost use Rattle.evc_lanes.specs.Inner.{Row};
 
 use evc_filter::{Filter, Stage};
 
-// Places go by index: the numbers may lie anywhere in a slice, and a struct of slice and place would be made for each row, and read once.
+// ---- slices and places are arguments of their own: a struct of both would be made for each row, and read once
 
 // N numbers, written one by one: as a copy of the array, four or two of them would be packed into one word first, and luma across takes 1.06
 // of the time at 8x8, 1.1 at 4x4 and 1.16 at 64x64.

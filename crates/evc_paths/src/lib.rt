@@ -69,11 +69,11 @@ pub fn copy_row(s: &[u16], n: usize, d: &mut [u16], to: usize)
     }
 }
 
-// ---- w and h are plain here and below: whole samples and one direction take any height, of which a type with a block's sides would take
-// few; dx and dy read as the Rust's
+// ---- w and h are plain here and below: whole samples and one direction take any height, so a type with a block's sides would ask more of
+// callers; dx and dy read as the Rust's
 
 // By value, since it is built into its caller: lent, the window is read again for each row (luma copy 4x16 executes 1.4 times the
-// instructions). What is not built in is lent it. Rows by number: `chunks` takes a stride above 0 alone, which callers need not give.
+// instructions). What is not built in is lent it. Rows by number: `chunks` asks for a stride above 0, which callers need not give.
 pub fn evc_mc_00(window: PlaneSlice, w: usize, h: usize, pred: &mut [u16])
     requires { (window.at + h * window.stride + w ≤ length window.plane.now + window.stride) × (h * w ≤ length pred.old) × (is_row_width w ≡ true) }
     ensures { pred.new ≡ with_block pred.old 0 w w h (λ (y x : ℕ). get_or window.entry.plane.now (window.entry.at + y * window.entry.stride + x) 0) }
