@@ -95,6 +95,7 @@ impl fmt::Display for Answer {
     }
 }
 
+// Why each program of a list has such a `main`: `for_each_record` of evc_lists.
 fn main(rt: HostRuntime) -> io::Result<()> {
     let alloc = rt.alloc();
     let mut out = io::writer(&rt);

@@ -22,6 +22,7 @@ const MOTION_LEN: usize = 8128;
 
 // ---- what each call gives
 
+// Each call is another, with arguments of its own: what they share is the block.
 fn flags(b: EvcBlock) -> Result<u16, Refusal> {
     evc_avail::get_avail_inter(b, &[0; UNITS])
 }

@@ -9,6 +9,7 @@ ghost use Rattle.evc_bytes.specs.Inner.{moved, Puts};
 
 // ---- reading
 
+// One for each sign, as the methods below: a trait over two types would say no more.
 pub fn u16_at(s: &[u8], at: usize) -> u16
     requires { at + 2 ≤ length s.now }
     ensures { result ≡ number_at 2 s.now at }

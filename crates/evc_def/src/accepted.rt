@@ -30,6 +30,7 @@ impl Picture {
     ghost use Rattle.evc_def.specs.Codes.{first_of, picture_checks};
     ghost use Rattle.evc_def.specs.Refusals.{code_of};
 
+    // Calls take the sides as numbers: this is their first check.
     pub fn new(w: u32, h: u32) -> Result<Picture, Refusal>
         ensures code { code_of result ≡ first_of (picture_checks w h) }
         ensures value { IfOk result (λ p. (p.w ≡ w) × (p.h ≡ h)) }
@@ -78,6 +79,7 @@ pub struct Placed {
 }
 
 impl Placed {
+    // Across and down each name their fields: one method of both would be a match of these two.
     pub fn across(self) -> Span
         ensures { (result.size ≡ self.given.pic_w) × (result.place ≡ self.given.x) × (result.side ≡ self.given.w) }
     {

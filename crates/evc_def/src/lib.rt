@@ -32,7 +32,7 @@ pub const PIC_PAD_SIZE_L: usize = MAX_CU_SIZE + 16;
 
 pub const PIC_PAD_SIZE_C: usize = PIC_PAD_SIZE_L >> 1;
 
-// Neighbouring block availability flag bits, and flags.
+// Neighbouring block availability flag bits, and flags: numbers, as the calls take and return them.
 pub const AVAIL_BIT_UP: u16 = 0;
 
 pub const AVAIL_BIT_LE: u16 = 1;
@@ -84,6 +84,7 @@ impl MCU {
         self.0 % 128
     }
 
+    // A function for each bit, under the Rust's name: one over the bit's place would say less where it is called.
     pub fn GET_COD(self) -> bool
         ensures { result ≡ is_coded self.0 }
     {
@@ -107,7 +108,8 @@ impl MCU {
 
 const tbl_cu_dim_offset: [usize; 3] = [0, MAX_CU_DIM, MAX_CU_DIM + (MAX_CU_DIM >> 2)];
 
-// Where plane `c` (Y, U, V) begins in a lent block.
+// Where plane `c` (Y, U, V) begins in a lent block. By its number, as the Rust's table: an enum of the three would only be turned into
+// these numbers.
 pub fn cu_dim_offset(c: usize) -> usize
     requires { c < 3 }
     ensures { result ≡ get_or tbl_cu_dim_offset c 0 }
@@ -180,7 +182,8 @@ impl Qpel {
         (self.0 & 3) as usize
     }
 
-    // The same of a chroma plane, which has half the sides: its samples are eight quarters apart.
+    // The same of a chroma plane, which has half the sides: its samples are eight quarters apart. `PlaneType`, by which one function
+    // could tell, is of evc_plane, above this crate.
     pub fn chroma_pel(self) -> Pel
         ensures { result.0 ≡ shr_z self.0 8 }
     {
@@ -208,7 +211,7 @@ impl Qpel {
         (to.0 - self.0) as i16
     }
 
-    // EVC_CLIP3
+    // EVC_CLIP3. The library's `clamp` asks that min is at most max, which callers need not give here.
     pub fn clip3(self, min: Qpel, max: Qpel) -> Qpel
         ensures { result.0 ≡ clip3 min.0 max.0 self.0 }
     {
@@ -308,7 +311,7 @@ pub fn is_block_side(n: u32) -> bool
     (4 <= n) & (n <= 64) & (u32::count_ones(n) <= 1)
 }
 
-// The sum is in 64 bits, where it cannot wrap.
+// The sum is in 64 bits, where it cannot wrap. Of plain numbers, here and below: a `Span` holds that they passed this test.
 fn is_inside(size: u32, place: u32, side: u32) -> bool
     ensures { result ≡ leb (place + side) size }
 {

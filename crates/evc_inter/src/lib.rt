@@ -33,6 +33,8 @@ use evc_record::{PlanesMut, References};
 use evc_replay::EvcReplay;
 use evc_trace::EvcTraceRecord;
 
+// Flags, numbers for kinds, sides and planes as arguments of their own are the C interface, here and below.
+
 fn plane_type(chroma: bool) -> PlaneType
     ensures { result ≡ plane_type chroma }
 {

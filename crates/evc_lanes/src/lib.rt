@@ -6,6 +6,8 @@ ghost use Rattle.evc_lanes.specs.Inner.{Row};
 
 use evc_filter::{Filter, Stage};
 
+// ---- slices and places are arguments of their own: a struct of both would be made for each row, and read once
+
 // N numbers, written one by one: as a copy of the array, four or two of them would be packed into one word first, and luma across takes 1.06
 // of the time at 8x8, 1.1 at 4x4 and 1.16 at 64x64.
 pub fn put<const N: usize>(d: &mut [u16], to: usize, numbers: &[u16; N])

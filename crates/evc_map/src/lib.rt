@@ -47,7 +47,7 @@ pub fn mcu_at(map_scu: &[u32], scup: Scu) -> MCU
     MCU(map_scu[scup.index()])
 }
 
-// As many words are too few for the picture.
+// As many words are too few for the picture. One function of this and of `map_short` would take how many numbers a unit has, in place of a name.
 pub fn words_short(pic: Sides, words: usize) -> bool
     ensures { result ≡ words_short pic.w pic.h words }
 {

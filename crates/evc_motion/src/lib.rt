@@ -22,7 +22,7 @@ pub struct EvcCandidates {
     pub refi: [i8; 4],
 }
 
-// The unit `back` before the block's first one, where its flag is set.
+// The unit `back` before the block's first one, where its flag is set. `then_some` would take the difference where it is not, too.
 fn unit_before(flagged: bool, scup: Scu, back: Scu) -> Option<Scu>
     requires { flagged ≡ true → back.0 ≤ scup.0 }
     ensures { result ≡ then_some flagged (record { 0 = scup.0 - back.0 }) }
@@ -94,7 +94,7 @@ fn candidates(
     }
 }
 
-// The candidates by value: the record comes in, and comes back filled.
+// The candidates by value: the record comes in, and comes back filled. The list is the caller's number: its check stands between the others.
 pub fn get_motion(
     block: EvcBlock,
     lidx: u32,

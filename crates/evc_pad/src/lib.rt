@@ -19,7 +19,7 @@ fn fill(row: &mut [u16], fill_val: u16)
 }
 
 // In each of h rows, the first one at `base`: the n samples from column x on become the one at column `from`. By index: of what a loop over
-// `chunks_exact_mut` wrote, a proof knows nothing.
+// `chunks_exact_mut` wrote, a proof knows nothing. Of a plane's sizes it takes two, so its numbers stay plain.
 fn pad_columns(
     plane: &mut [u16],
     base: usize,

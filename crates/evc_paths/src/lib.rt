@@ -57,7 +57,8 @@ pub fn copy_row(s: &[u16], n: usize, d: &mut [u16], to: usize)
     match n {
         2 => copy::<2>(s, 0, d, to),
         4 => copy::<4>(s, 0, d, to),
-        // Not a counted loop, of which the optimizer makes a call of the C library for each row.
+        // Not a counted loop, of which the optimizer makes a call of the C library for each row: tried with `copy_from_slice`, 8 by 8
+        // took 1.6 times the time.
         _ => {
             let mut x = 0;
             while x + 8 <= n {
@@ -68,7 +69,11 @@ pub fn copy_row(s: &[u16], n: usize, d: &mut [u16], to: usize)
     }
 }
 
-// By value, since it is built into its caller: lent, the window is read again for each row. What is not built in is lent it.
+// ---- w and h are plain here and below: whole samples and one direction take any height, so a type with a block's sides would ask more of
+// callers; dx and dy read as the Rust's
+
+// By value, since it is built into its caller: lent, the window is read again for each row (luma copy 4x16 executes 1.4 times the
+// instructions). What is not built in is lent it. Rows by number: `chunks` asks for a stride above 0, which callers need not give.
 pub fn evc_mc_00(window: PlaneSlice, w: usize, h: usize, pred: &mut [u16])
     requires { (window.at + h * window.stride + w ≤ length window.plane.now + window.stride) × (h * w ≤ length pred.old) × (is_row_width w ≡ true) }
     ensures { pred.new ≡ with_block pred.old 0 w w h (λ (y x : ℕ). get_or window.entry.plane.now (window.entry.at + y * window.entry.stride + x) 0) }
@@ -106,7 +111,8 @@ fn step(window: PlaneSlice, direction: Direction) -> usize
     }
 }
 
-// One direction. By groups of eight columns; a block of 4 or 2 columns is one group.
+// One direction. By groups of eight columns; a block of 4 or 2 columns is one group. Groups by number, as the examined strips, for which
+// `step_by` took 1.23 of the time (evc_samples).
 pub fn evc_mc_one(
     t: PlaneType,
     window: PlaneSlice,

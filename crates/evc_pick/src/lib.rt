@@ -17,7 +17,8 @@ pub enum PredBlock {
     Second,
 }
 
-// One picker handing back the part of either lent block, from the plane's offset on. Once the part has ended, both blocks have.
+// One picker handing back the part of either lent block, from the plane's offset on. Once the part has ended, both blocks have. Both blocks
+// and the offset are arguments: it is the form that document 01 names (docs/DECISIONS.md, 43).
 fn pick<'a>(
     pred0: &'a mut [u16],
     pred1: &'a mut [u16],

@@ -51,6 +51,8 @@ impl PlaneType {
     }
 }
 
+// A plane's type and its picture stay apart, here and in the crates above: one picture is asked for both types, so a struct of the two would
+// be made for a call and taken apart in it.
 pub fn plane_config(t: PlaneType, pic: Picture) -> PlaneConfig
     ensures { result ≡ config_of t pic.w pic.h }
 {

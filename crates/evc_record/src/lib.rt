@@ -49,7 +49,8 @@ pub struct PlanesMut<'a> {
 
 // ---- a block's samples into the target
 
-// h rows of w samples that lie one behind the other, to rows that are `stride` apart.
+// h rows of w samples that lie one behind the other, to rows that are `stride` apart. By number: the target's last row may be
+// shorter than that, and of what a loop over mutable chunks wrote, a proof knows nothing (evc_pad).
 fn copy_block(s: &[u16], at: usize, w: usize, h: usize, d: &mut [u16], to: usize, stride: usize)
     requires { (at + h * w ≤ length s.now) × (to + h * stride + w ≤ length d.old + stride) × (is_row_width w ≡ true) }
     ensures { d.new ≡ with_block d.old to stride w h (λ (y x : ℕ). get_or s.now (at + y * w + x) 0) }

@@ -40,7 +40,7 @@ fn answer(ended: Result<(), Refusal>, index: u64, c: MovedCounts) -> EvcReplay
     }
 }
 
-// The records one after another.
+// The records one after another. No `?`: index and counts go with a refusal. Two blocks of fixed memory: no heap in the archive.
 fn replay_records(from: &Source, trace: &[u8], target: &mut PlanesMut) -> EvcReplay
     requires long_enough { picture_short from.now.header.pic_w from.now.header.pic_h (target_of target.old) ≡ false }
     requires has_header { header_len count_len ≤ length trace.now }

@@ -97,6 +97,7 @@ impl fmt::Display for Side {
     }
 }
 
+// Wide and high name their fields: one function of both would take two sides and two places.
 fn wide(x: u32, w: u32, h: u32) -> EvcBlock {
     EvcBlock {
         pic_w: 64,

@@ -200,6 +200,7 @@ impl PicturesRecord {
     }
 }
 
+// Why each program of a list has such a `main`: `for_each_record` of evc_lists.
 fn main(rt: HostRuntime) -> io::Result<()> {
     let alloc = rt.alloc();
     let mut out = io::writer(&rt);

@@ -19,6 +19,7 @@ const CHUNK_LEN: usize = CHUNK_RECORDS * RECORD_LEN;
 
 // ---- a record's answer
 
+// A number by its place, of either sign: the definition `field` reads it so.
 fn field(record: &[u8; RECORD_LEN], k: usize) -> u32
     requires { k < 8 }
     ensures { result ≡ field record.now 0 k }
@@ -100,7 +101,7 @@ fn read_full<R: Read>(input: &mut R, bytes: &mut [u8]) -> io::Result<usize>
     Ok(n)
 }
 
-// One chunk; answers whether to go on.
+// One chunk, in fixed memory: `run` asks for no allocator. Answers whether to go on.
 fn run_chunk<R: Read, W: Write>(input: &mut R, out: &mut W) -> io::Result<bool>
     ensures { IfOk result (λ more. ChunkAnswered (R.remaining input.old) (R.remaining input.new) (W.contents out.old) (W.contents out.new) more) }
 {
