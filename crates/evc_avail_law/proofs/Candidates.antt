@@ -1,6 +1,7 @@
 -- What candidates are taken from with the flags of a slice. Assumes nothing.
 use mathlib.Core.Bool.{Bool, true, false, cond, ◌&&◌, ◌||◌}
 use mathlib.Core.List.{List}
+use mathlib.Core.Logic.{⊎_elim}
 use mathlib.Core.Path.{◌≡◌, refl, sym, ap, subst, ◌∙◌}
 use Prim.Native.Nat.{ℕ, suc, ◌+◌, ◌-◌, ◌*◌, ◌<◌, ◌≤◌}
 use Rattle.std.proofs.Common.{suc-mul}
@@ -9,6 +10,7 @@ use borrow.Author.Tests.{eqb-true}
 use lib.Dec.{T, eqb}
 use lib.IntN.{ℤ}
 use lib.ListN.{length}
+use Rattle.std.proofs.lemmas.Bool.{and_parts, or_cases}
 use Rattle.evc_def.specs.Blocks.{Allowed}
 use Rattle.evc_def.specs.Codes.{first_of}
 use Rattle.evc_def.specs.Tables.{is_bit}
@@ -44,28 +46,16 @@ module _ (counts : ℕ → Bool) (b : EvcBlock) (words : List ℕ) where
 
   found : (column row index : ℕ) → (has_unit b column row && counts (word_of b words column row)) ≡ true → (InPicture b column row → index_of b column row ≡ index) → Found index
   found column row index e f =
-      let h = both _ _ e in
+      let h = and_parts _ _ e in
       subst Found (f (in_picture b column row h.0)) (unit_below b column row h.0, h.1)
-    where
-      both : (s t : Bool) → (s && t) ≡ true → (s ≡ true) × (t ≡ true)
-      both true t h = (refl, h)
-      both false t h = absurd (subst T (sym h) tt)
 
   found_inter : (column row index : ℕ) → is_inter_in counts b words column row ≡ true → (InPicture b column row → index_of b column row ≡ index) → Found index
   unfolding is_inter_in
-  found_inter column row index e = found column row index (first _ _ _ e)
-    where
-      first : (r s t : Bool) → (r && s && t) ≡ true → r ≡ true
-      first true s t h = refl
-      first false s t h = h
+  found_inter column row index e = found column row index (and_parts _ _ (and_parts _ _ e).0).0
 
   found_not_intra : (column row index : ℕ) → is_not_intra_in counts b words column row ≡ true → (InPicture b column row → index_of b column row ≡ index) → Found index
   unfolding is_not_intra_in
-  found_not_intra column row index e = found column row index (first _ _ e)
-    where
-      first : (r s : Bool) → (r && s) ≡ true → r ≡ true
-      first true s h = refl
-      first false s h = h
+  found_not_intra column row index e = found column row index (and_parts _ _ e).0
 
   -- ---- the three units that candidates are taken from
 
@@ -91,13 +81,10 @@ module _ (counts : ℕ → Bool) (b : EvcBlock) (words : List ℕ) (p : Allowed 
   up_inside z = no_not_intra counts b words (first_column b) (above b) (no_row b p q (first_column b) (eqb-true b.y 0 z))
 
   up_right_inside : (eqb b.y 0 || eqb (b.x + b.w) b.pic_w) ≡ true → is_inter_in counts b words (right_of b) (above b) ≡ false
-  up_right_inside z = no_inter counts b words (right_of b) (above b) (has_not b (right_of b) (above b) (λ i. either _ _ z
+  up_right_inside z = no_inter counts b words (right_of b) (above b) (has_not b (right_of b) (above b) (λ i. ⊎_elim
       (λ y. let l = i.top in let e = eqb-true b.y 0 y in omega arith)
-      (λ x. let l = i.right in let e = eqb-true (b.x + b.w) b.pic_w x in omega arith)))
-    where
-      either : (s t : Bool) → (s || t) ≡ true → (s ≡ true → ⊥) → (t ≡ true → ⊥) → ⊥
-      either true t h f g = f refl
-      either false t h f g = g h
+      (λ x. let l = i.right in let e = eqb-true (b.x + b.w) b.pic_w x in omega arith)
+      (or_cases _ _ z)))
 
   none_outside : flag_outside b (avail_of counts b words) ≡ false
   unfolding flag_outside

@@ -15,8 +15,8 @@ use lib.Ieee.Fits.{up_pos, down_pos, and_l}
 use lib.Ieee.Order.{round_mono}
 use lib.Ieee.Positive.{above, above_of_le}
 use lib.Ieee.Scale.{round_same}
+use mir.Facts.{or_yes}
 use Rattle.evc_int.specs.Whole.{eq_z}
-use Rattle.evc_def.proofs.Codes.{or_yes}
 use Rattle.evc_map.specs.Maps.{most_units}
 use Rattle.evc_camera.specs.Camera.{mean_of, plus_zero}
 use Rattle.evc_camera_law.specs.CameraLaws.{turned, 8192·0, Within8192}

@@ -5,12 +5,12 @@ use mathlib.Core.Path.{◌≡◌, refl, sym, ap₂, subst, ◌∙◌}
 use Prim.Native.Nat.{ℕ, ◌+◌, ◌-◌, ◌%◌, ◌≤◌}
 use native.Mathlib.Omega.{arith}
 use lib.Dec.{T, leb, eqb, leb→le, eqb→eq}
-use borrow.Author.Tests.{eq-eqb, le-leb}
-use mir.Facts.{and_yes}
+use borrow.Author.Tests.{eq-eqb, le-leb, not-false}
+use mir.Facts.{and_yes, or_yes}
 use Rattle.evc_def.specs.Blocks.{is_picture_side, is_block_side, is_inside, bad_picture, bad_block, Allowed}
 use Rattle.evc_def.specs.Codes.{first_of, block_checks}
 use Rattle.evc_def.specs.declared.EvcBlock.{EvcBlock}
-use Rattle.evc_def.proofs.Codes.{accepted, passed, none, or_yes}
+use Rattle.evc_def.proofs.Codes.{accepted, passed, none}
 
 -- what holds of each side holds of a block's side
 pub by_sides : (P : ℕ → Type 0) → P 4 → P 8 → P 16 → P 32 → P 64 → (n : ℕ) → T (is_block_side n) → P n
@@ -43,9 +43,7 @@ picture_side n t =
     record { low = leb→le 4 n b.0; top = leb→le n 8128 b.1; fours = eqb→eq (n % 4) 0 a.1 }
 
 both : (a b : Bool) → not (a && b) ≡ false → T a × T b
-both true true e = (tt, tt)
-both true false e = absurd (subst T e tt)
-both false b e = absurd (subst T e tt)
+both a b e = and_yes a b (subst T (sym (not-false _ e)) tt)
 
 pub picture_sides : (W H : ℕ) → bad_picture W H ≡ false → PictureSide W × PictureSide H
 unfolding bad_picture

@@ -7,7 +7,7 @@ use Prim.Native.Nat.{ℕ, ◌≤◌, ◌<◌}
 use native.Mathlib.Omega.{arith}
 use lib.Dec.{T, eqb, ltb, ltb→lt, eqb→eq}
 use borrow.Author.Tests.{eq-eqb}
-use mir.Facts.{and_yes}
+use mir.Facts.{and_yes, or_yes}
 use Rattle.evc_def.specs.Codes.{Check, ◌when◌, first_of}
 
 module _ (n : ℕ) (b : Bool) (checks : List Check) where
@@ -40,10 +40,6 @@ refuses k (n when b ∷ checks) = (eqb k n && b) || refuses k checks
 abbrev pub rising : ℕ → List Check → Bool
 rising m [] = true
 rising m (n when b ∷ checks) = ltb m n && rising n checks
-
-pub or_yes : (a b : Bool) → T (a || b) → T a ⊎ T b
-or_yes true b t = inl tt
-or_yes false b t = inr t
 
 -- the number of a check that refuses is this one's, or stands further on
 here_or_later : (k n : ℕ) (b : Bool) (checks : List Check) → T (refuses k (n when b ∷ checks)) → ((k ≡ n) × T b) ⊎ T (refuses k checks)

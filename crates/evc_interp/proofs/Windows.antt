@@ -1,4 +1,5 @@
 -- Every path reads only what was examined: its clamped window lies in that of both directions. Assumes nothing.
+use mir.Facts.{or_yes}
 use Rattle.evc_plane.specs.declared.PlaneConfig.{PlaneConfig}
 use Rattle.evc_samples.specs.Samples.{exceeds}
 use mathlib.Core.Bool.{Bool, true, false, cond, ◌||◌}
@@ -21,7 +22,7 @@ use Rattle.evc_int.proofs.Lists.{with_block-ext}
 use Rattle.evc_def.specs.Blocks.{bad_picture}
 use Rattle.evc_def.specs.declared.EvcMv.{EvcMv}
 use Rattle.evc_def.specs.declared.QpelPlace.{QpelPlace}
-use Rattle.evc_def.proofs.Codes.{accepted, or_yes}
+use Rattle.evc_def.proofs.Codes.{accepted}
 use Rattle.evc_plane.specs.declared.PlaneType.{PlaneType}
 use Rattle.evc_plane.specs.declared.PlaneType.TheVariants.{Y, UV}
 use Rattle.evc_plane.specs.Planes.{pad_of, origin_of, side_of, stride_of, plane_len, config_of, start_at, window_start}

@@ -9,6 +9,7 @@ use lib.IntN.{ℤ, pos, ◌+ℤ◌, ◌*ℤ◌}
 use lib.ListN.{get_or}
 use borrow.Author.Tests.{eqb-true}
 use Rattle.evc_int.specs.Whole.{eq_z}
+use Rattle.std.proofs.Math.Bool.{or_comm}
 use Rattle.std.proofs.lemmas.Bool.{and_parts}
 use Rattle.evc_int.proofs.Whole.{eq_z-true}
 use Rattle.evc_def.specs.Blocks.{Allowed, max_poc}
@@ -170,12 +171,6 @@ top_bottom k m known done mirror =
 
 -- ---- the exchange
 
-or_swap : (u v : Bool) → u || v ≡ true → v || u ≡ true
-or_swap true true e = refl
-or_swap true false e = refl
-or_swap false true e = refl
-or_swap false false e = e
-
 swapped : (u v : Bool) (f g : ℕ) → u || v ≡ true → cond (v && u) (rounded_average g f) (cond v g f) ≡ cond (u && v) (rounded_average f g) (cond u f g)
 swapped true true f g e = omega arith
 swapped true false f g e = refl
@@ -198,7 +193,7 @@ exchange k pred0 pred1 given done long0 long1 =
     accepts_call b k.l1 k.l0 pred0 pred1 k.picture1 k.picture0 given.made1 given.made0
     (record {
       block = a.block;
-      some = or_swap k.l0.list.used k.l1.list.used a.some;
+      some = or_comm k.l1.list.used k.l0.list.used ∙ a.some;
       count0 = a.count1;
       count1 = a.count0;
       long0 = long0;

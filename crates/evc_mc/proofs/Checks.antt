@@ -9,13 +9,14 @@ use lib.Dec.{T, ltb, eqb, eqb→eq}
 use lib.ListN.{length}
 use borrow.Author.Tests.{ltb-false, le-ltb, not-false}
 use mathlib.Core.Logic.{⊎_elim}
+use mir.Facts.{or_yes}
 use Rattle.std.proofs.lemmas.Bool.{and_from, or_from, and_parts, or_parts, not-false}
 use Rattle.evc_int.proofs.Bools.{and_false_right}
 use Rattle.evc_def.specs.Blocks.{is_block_side, is_inside, bad_picture, bad_block}
 use Rattle.evc_def.specs.Codes.{◌when◌, first_of, block_checks}
 use Rattle.evc_def.specs.declared.EvcBlock.{EvcBlock}
 use Rattle.evc_def.specs.declared.QpelPlace.{QpelPlace}
-use Rattle.evc_def.proofs.Codes.{accepted, passed, none, goes_on, both_accepted, or_yes}
+use Rattle.evc_def.proofs.Codes.{accepted, passed, none, goes_on, both_accepted}
 use Rattle.evc_def.proofs.Blocks.{allowed_block}
 use Rattle.evc_plane.specs.Planes.{side_of, plane_len}
 use Rattle.evc_plane.specs.declared.PlaneType.{PlaneType}

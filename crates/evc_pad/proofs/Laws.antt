@@ -1,6 +1,6 @@
 -- Laws of the padded plane, for every accepted picture, both types and every buffer that is long enough: what stands at each place, and that it is
 -- the padded reference picture, also through a clamped window; twice is once; equal pictures give equal planes; mirrors. Assumes nothing.
-use mathlib.Core.Bool.{Bool, true, false, ◌&&◌, ◌||◌}
+use mathlib.Core.Bool.{Bool, true, false, ◌&&◌, ◌||◌, and-false}
 use mathlib.Core.List.{List, [], ◌∷◌}
 use mathlib.Core.Path.{◌≡◌, refl, sym, ap, ap₂, ◌∙◌}
 use Prim.Native.Nat.{ℕ, ◌+◌, ◌-◌, ◌*◌, ◌≤◌, ◌<◌, min}
@@ -137,11 +137,7 @@ passes : (k : ℕ) (checks : List Check) → T (positive checks) → first_of ch
 unfolding first_of
 passes k [] p e = refl
 passes k (n when true ∷ checks) p e = let l = ltb→lt 0 n (and_yes (ltb 0 n) (positive checks) p).0 in absurd (omega arith)
-passes k (n when false ∷ checks) p e = ap₂ (λ (a b : Bool). a || b) (and_no (eqb k n)) (passes k checks (and_yes (ltb 0 n) (positive checks) p).1 e)
-  where
-    and_no : (b : Bool) → b && false ≡ false
-    and_no true = refl
-    and_no false = refl
+passes k (n when false ∷ checks) p e = ap₂ (λ (a b : Bool). a || b) (and-false (eqb k n)) (passes k checks (and_yes (ltb 0 n) (positive checks) p).1 e)
 
 pub after : (t : PlaneType) (W H : ℕ) (s : List ℕ) → pad_code t W H s ≡ 0 → pad_after t W H s ≡ padded t W H s
 unfolding pad_after

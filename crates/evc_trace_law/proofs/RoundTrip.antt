@@ -1,14 +1,14 @@
 -- W1's round trip: header and record, at every width of the counts, and through the calls. Assumes nothing.
 use Prim.Native.Nat.{ℕ, ◌+◌, ◌*◌, ◌/◌, ◌%◌, ◌<◌, ◌≤◌}
-use mathlib.Core.Bool.{Bool, true, false, not, ◌&&◌}
+use mathlib.Core.Bool.{true, false, not, ◌&&◌}
 use mathlib.Core.List.{List, [], ◌∷◌, ◌++◌, append_assoc}
 use mathlib.Core.Path.{◌≡◌, refl, sym, ap, subst, ◌∙◌}
 use native.Mathlib.Omega.{arith}
 use lib.Dec.{T, eqb, eqb→eq}
 use lib.ListN.{length, length-append, get_or, take, drop}
 use lib.Seq.{get_or_at}
-use borrow.Author.Tests.{eq-eqb, not-false, le-ltb}
-use Rattle.std.proofs.lemmas.Bool.{and_parts, not-false}
+use borrow.Author.Tests.{eq-eqb, le-ltb}
+use Rattle.std.proofs.lemmas.Bool.{and_from, and_parts, not-false, not_from_true}
 use Rattle.evc_def.specs.Blocks.{bad_picture}
 use Rattle.evc_def.proofs.Codes.{accepted, passed, none}
 use Rattle.evc_bytes.specs.Bytes.{bytes_of, number_at}
@@ -145,10 +145,7 @@ form_tested s e =
 
 form_passes : (s : List ℕ) → 22 ≤ length s → is_well_formed (record_of count_len s) ≡ true → last_byte count_len s ≡ 0 → form_code s ≡ 0
 unfolding form_code
-form_passes s l w z = passed 11 _ _ (le-ltb _ _ l) ∙ passed 12 _ _ (good _ _ w (eq-eqb _ 0 z)) ∙ none
-  where
-    good : (a b : Bool) → a ≡ true → b ≡ true → not (a && b) ≡ false
-    good a b p q = rw (p, q)
+form_passes s l w z = passed 11 _ _ (le-ltb _ _ l) ∙ passed 12 _ _ (not_from_true _ (and_from _ _ w (eq-eqb _ 0 z))) ∙ none
 
 record_accepted : RecordAccepted
 record_accepted W H r out f e =

@@ -1,6 +1,6 @@
 -- `evc_motion::flag_outside` meets its contract. Assumes nothing.
-use mathlib.Core.Bool.{Bool, true, false, not, ◌&&◌, ◌||◌, and-false}
-use mathlib.Core.Path.{◌≡◌, refl, sym, ◌∙◌}
+use mathlib.Core.Bool.{Bool, true, false, not, ◌&&◌, ◌||◌, and-false, not-not}
+use mathlib.Core.Path.{◌≡◌, sym, ◌∙◌}
 use Prim.Native.Nat.{ℕ, ◌+◌}
 use borrow.Author.Tests.{not-true}
 use lib.Dec.{eqb}
@@ -9,10 +9,6 @@ use Rattle.evc_def.specs.Tables.{is_bit}
 use Rattle.evc_def.specs.declared.EvcBlock.{EvcBlock}
 use Rattle.evc_motion.specs.Candidates.{flag_outside}
 use Rattle.evc_motion.proofs.flag_outside.Goals as goal
-
-not_not : (t : Bool) → not (not t) ≡ t
-not_not true = refl
-not_not false = refl
 
 module _ (b : EvcBlock) (avail : ℕ) (right : Bool) (e : right ≡ not (eqb (b.x + b.w) b.pic_w)) where
   inner : (not (eqb b.x 0) && not (eqb b.y 0) && right) ≡ true → false ≡ flag_outside b avail
@@ -24,7 +20,7 @@ module _ (b : EvcBlock) (avail : ℕ) (right : Bool) (e : right ≡ not (eqb (b.
 
   at_edge : (le up up-ri : Bool) → le ≡ is_bit 1 avail → up ≡ is_bit 0 avail → up-ri ≡ is_bit 6 avail → ((le && eqb b.x 0) || (up && eqb b.y 0) || (up-ri && (eqb b.y 0 || not right))) ≡ flag_outside b avail
   unfolding flag_outside
-  at_edge le up up-ri p q r = rw (p, q, r, e, not_not (eqb (b.x + b.w) b.pic_w))
+  at_edge le up up-ri p q r = rw (p, q, r, e, not-not (eqb (b.x + b.w) b.pic_w))
 
 -- the picture goes on, as the span of the block says
 on : (b : EvcBlock) (place side size : ℕ) (r : Bool) → r ≡ not (eqb (place + side) size) → (size ≡ b.pic_w) × (place ≡ b.x) × (side ≡ b.w) → r ≡ not (eqb (b.x + b.w) b.pic_w)
