@@ -26,7 +26,7 @@ use evc_camera::EvcCamera;
 use evc_clip::EvcClipped;
 use evc_def::{EvcBlock, EvcMv};
 use evc_direct::{EvcDirect, Pocs};
-use evc_mc::{EvcList, EvcPredicted, Planes};
+use evc_mc::{EvcList, EvcPredicted, Planes, RefPicList};
 use evc_motion::EvcCandidates;
 use evc_plane::PlaneType;
 use evc_record::{PlanesMut, References};
@@ -180,17 +180,27 @@ pub extern "C" fn evc_mc2(
         let l1 = ref_pic_list list1 y1.now u1.now v1.now in
         pred1.new ≡ mc2_second block l0 l1 pred0.old pred1.old }
 {
-    let l0 = list0.with_planes(Planes {
-        y: y0,
-        u: u0,
-        v: v0,
-    });
-    let l1 = list1.with_planes(Planes {
-        y: y1,
-        u: u1,
-        v: v1,
-    });
-    let predicted = evc_mc::evc_mc2(block, l0.as_ref(), l1.as_ref(), pred0, pred1);
+    let l0 = RefPicList {
+        mv: list0.mv,
+        poc: list0.poc,
+        planes: Planes {
+            y: y0,
+            u: u0,
+            v: v0,
+        },
+    };
+    let l1 = RefPicList {
+        mv: list1.mv,
+        poc: list1.poc,
+        planes: Planes {
+            y: y1,
+            u: u1,
+            v: v1,
+        },
+    };
+    let list0 = list0.used.then_some(&l0);
+    let list1 = list1.used.then_some(&l1);
+    let predicted = evc_mc::evc_mc2(block, list0, list1, pred0, pred1);
     EvcPredicted::from(predicted)
 }
 

@@ -7,9 +7,9 @@ ghost use Rattle.evc_def.specs.Refusals.{code_of};
 ghost use Rattle.evc_clip.specs.Clip.{numbers_of, clipped_place};
 ghost use Rattle.evc_pick.specs.Inner.{by_block};
 ghost use Rattle.evc_pick.specs.declared.PredBlock.TheVariants.{First, Second};
-ghost use Rattle.evc_mc.specs.Block.{Component, ref_pic_list, with_samples, list_sample, first_sample, is_bi, average, pred_len};
+ghost use Rattle.evc_mc.specs.Block.{Component, with_samples, list_sample, first_sample, is_bi, average, pred_len};
 ghost use Rattle.evc_mc.specs.Block.{planes_short, list_short, poc_exceeds, list_exceeds, mc2_code, list_moved, answer_of, mc2_answer, mc2_first, mc2_second};
-ghost use Rattle.evc_mc.specs.Lent.{list_of, lent_list, in_use};
+ghost use Rattle.evc_mc.specs.Lent.{lent_list};
 ghost use Rattle.evc_mc.specs.Inner.{ListExamined, Accepted, with_list, block_sample, RowSmall, BlockSmall};
 
 use evc_clip::{EvcMoved, MovedMv};
@@ -89,18 +89,6 @@ pub struct RefPicList<'a> {
     pub mv: EvcMv,
     pub poc: u32,
     pub planes: Planes<'a>,
-}
-
-impl EvcList {
-    pub fn with_planes(self, planes: Planes) -> Option<RefPicList>
-        ensures { list_of result ≡ in_use (ref_pic_list self planes.entry.y.now planes.entry.u.now planes.entry.v.now) }
-    {
-        self.used.then_some(RefPicList {
-            mv: self.mv,
-            poc: self.poc,
-            planes,
-        })
-    }
 }
 
 // A list of a block, and the clipped place that its vector leads to; of a list that is not in use, the block's own.

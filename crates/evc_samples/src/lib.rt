@@ -42,7 +42,7 @@ fn or_lanes<const N: usize>(s: &[u16], at: usize, stride: usize, n: usize, h: us
 }
 
 // Wider rows, by strips of sixteen columns: the last one goes to the row's end, and (n - 1) / 16 begin before it. By `step_by(16)` over the
-// columns a luma block of 16x16 takes 1.23 of the time.
+// columns, whole samples of 16x16 take 1.23 of the time.
 fn or_strips(s: &[u16], at: usize, stride: usize, n: usize, h: usize) -> u16
     requires { (at + h * stride + n ≤ length s.now + stride) × (16 ≤ n) × (0 < h) }
     ensures { too_large result ≡ exceeds s.now at stride n h }

@@ -101,12 +101,16 @@ impl From<[u8; 32]> for Call {
 }
 
 // No `From` of evc_lists: with one, each of the programs would stand on all the crates of evc_mc.
-fn ref_pic_list(list: EvcList, planes: &Planes) -> Option<RefPicList<'_>> {
-    list.with_planes(evc_mc::Planes {
-        y: &planes.y,
-        u: &planes.u,
-        v: &planes.v,
-    })
+fn ref_pic_list(list: EvcList, planes: &Planes) -> RefPicList<'_> {
+    RefPicList {
+        mv: list.mv,
+        poc: list.poc,
+        planes: evc_mc::Planes {
+            y: &planes.y,
+            u: &planes.u,
+            v: &planes.v,
+        },
+    }
 }
 
 impl fmt::Display for Predicted {
@@ -155,7 +159,9 @@ impl Call {
     ) -> Predicted {
         let l0 = ref_pic_list(self.list0, ref0);
         let l1 = ref_pic_list(self.list1, ref1);
-        Predicted(evc_mc::evc_mc2(block, l0.as_ref(), l1.as_ref(), pred0, pred1).into())
+        let list0 = self.list0.used.then_some(&l0);
+        let list1 = self.list1.used.then_some(&l1);
+        Predicted(evc_mc::evc_mc2(block, list0, list1, pred0, pred1).into())
     }
 
     fn answer(
