@@ -7,10 +7,5 @@ ghost use Rattle.evc_int.specs.LowBits.{low16};
 pub fn low16(x: i32) -> i16
     ensures { result ≡ low16 x }
 {
-    let bits = x & 0xffff;
-    if bits < 32768 {
-        bits as i16
-    } else {
-        (bits - 65536) as i16
-    }
+    ((x & 0xffff) as u16).cast_signed()
 }

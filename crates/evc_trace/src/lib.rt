@@ -115,7 +115,7 @@ pub fn is_trace(s: &[u8]) -> bool
     ensures { result ≡ is_trace version s.now }
 {
     let version = evc_bytes::u16_at(s, 3);
-    (s[0] == b'I') & (s[1] == b'P') & (s[2] == b'T') & (version == VERSION)
+    s.starts_with(b"IPT") & (version == VERSION)
 }
 
 pub fn read_header(s: &[u8]) -> TraceHeader
