@@ -146,7 +146,7 @@ impl<'a, R: Region> Neighbours<'a, R> {
         }
     }
 
-    // The unit above the block's first.
+    // The unit above the block's first. By `if`, here and in `left_of`, as evc_motion's `unit_before`.
     fn above(&self) -> Option<Scu>
         ensures { let b = self.now.block.given in
             result ≡ unit_of b (first_column b) (above b) }

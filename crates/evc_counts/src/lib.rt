@@ -16,7 +16,7 @@ pub struct MovedCounts {
     pub down_high: u64,
 }
 
-// By the number: the record has numbers, of which a `TryFrom` would make a Result, to be compared with `Ok(side)`.
+// By the number: `with_lists` takes the C records, whose numbers may be any, and a `MovedMv` in their place would ask more of callers.
 fn one_if(moved: u8, side: Moved) -> u64
     ensures { result ≡ one_if moved (number_of side) }
 {

@@ -30,7 +30,7 @@ impl Picture {
     ghost use Rattle.evc_def.specs.Codes.{first_of, picture_checks};
     ghost use Rattle.evc_def.specs.Refusals.{code_of};
 
-    // Calls take the sides as numbers: this is their first check.
+    // Calls take the sides as numbers, and so do the functions that do their work: this is their first check.
     pub fn new(w: u32, h: u32) -> Result<Picture, Refusal>
         ensures code { code_of result ≡ first_of (picture_checks w h) }
         ensures value { IfOk result (λ p. (p.w ≡ w) × (p.h ≡ h)) }

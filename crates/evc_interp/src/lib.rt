@@ -117,6 +117,7 @@ pub fn position_of(t: PlaneType, pic: Picture, ori_mv: EvcMv, gmv: QpelPlace) ->
 }
 
 // The block by its path. The position is lent: a copy at each call costs a block of 4 by 4 from two lists 5 % (docs/SPEED.md).
+// Type and sides stay apart: one position serves cb and cr, and the paths take plain sides.
 pub fn predict(t: PlaneType, p: &Position, w: usize, h: usize, plane: &[u16], pred: &mut [u16])
     requires { Readable t p.now w h plane.now × (h * w ≤ length pred.old) }
     ensures { pred.new ≡ with_block pred.old 0 w w h (sample_from t p.now plane.now) }

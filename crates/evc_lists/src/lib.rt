@@ -2,7 +2,7 @@
 //! rust/README.md has the records.
 #![tactic(auto)]
 
-ghost use Rattle.std.specs.Prelude.{◌≡◌, ◌==◌, ◌+◌, ◌*◌, ◌<◌, ◌≤◌, ℕ, List, [], ◌∷◌, ◌++◌, min, get_or, set, length, map, vec_len};
+ghost use Rattle.std.specs.Prelude.{◌≡◌, ◌==◌, ◌+◌, ◌*◌, ◌<◌, ◌≤◌, ℕ, List, [], ◌∷◌, ◌++◌, min, get_or, set, take, length, map, vec_len};
 ghost use Rattle.std.specs.Prelude.{Some, IfOk, IfSome, OnOk, IsTrue};
 ghost use Rattle.std.specs.Io.KnownBytes.{Appends, Consumes};
 ghost use Rattle.evc_lists.specs.Records.{number, number32};
@@ -38,7 +38,8 @@ impl<const N: usize> Record for [u8; N] {
 
 // Runs the next records, `most` of them or as many as there are. A record's step may read what follows it: how far the input has got
 // is up to the steps, of which the bound says only that they may be called. The clause needs the name F, which an `impl FnMut` has not.
-// Each program's `main` is this call over the runtime's reader and writer, whose types have no names: a function for all of them would need those.
+// Each program's `main` is this call over the runtime's reader and writer: one function of them all would be generic over the runtime, and each
+// `main` would call it with the same closure.
 pub fn for_each_record<R: Read, T: Record, F: FnMut(&mut R, T) -> io::Result<()>>(
     alloc: Global,
     input: &mut R,
@@ -179,10 +180,22 @@ fn word_of(state: u8) -> u32
     WORDS[usize::from(state % 8)]
 }
 
+// By index: of what a zip over `iter_mut` wrote, a proof knows the length alone.
+pub fn fill_words(words: &mut [u32], states: &[u8])
+    requires { length words.old ≤ length states.now }
+    ensures { words.new ≡ map word_of (take (length words.old) states.now) }
+{
+    for i in 0..words.len() {
+        words[i] = word_of(states[i]);
+    }
+}
+
 pub fn words_of(alloc: Global, states: &[u8]) -> Result<Vec<u32>, AllocError>
     ensures { IfOk result (λ words. words.items ≡ map word_of states.now) }
 {
-    states.iter().map(|state| word_of(*state)).collect(alloc)
+    let mut words = vec![in alloc; 0; states.len()]?;
+    fill_words(&mut words, states);
+    Ok(words)
 }
 
 // ---- arbitrary samples
@@ -425,7 +438,7 @@ impl Pictures {
     }
 
     // What is done to a plane once its samples are made.
-    fn finish(&self, list: RefList, component: Component, plane: &mut [u16])
+    pub fn finish(&self, list: RefList, component: Component, plane: &mut [u16])
         ensures { plane.new ≡ finished self.now list component plane.old }
     {
         self.pad(component.plane_type(), plane);

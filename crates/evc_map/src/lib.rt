@@ -23,6 +23,7 @@ pub fn unit_count(pic: Sides) -> Scu
     Scu(scu(pic.w).0 * scu(pic.h).0)
 }
 
+// Of plain numbers: any unit of a picture, not a block's first alone.
 pub fn unit_at(pic_w: u32, x: u32, y: u32) -> Scu
     requires { (pic_w ≤ 8128) × (x ≤ 8128) × (y ≤ 8128) }
     ensures { result.0 ≡ unit_at pic_w x y }

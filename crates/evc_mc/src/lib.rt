@@ -83,7 +83,7 @@ impl Planes<'_> {
 }
 
 // A list in use: its vector, the order count and the planes of its picture. It is lent: a copy for each call that is not built in
-// costs a block some 20 ns.
+// costs a block up to 45 ns.
 #[derive(Clone, Copy)]
 pub struct RefPicList<'a> {
     pub mv: EvcMv,
@@ -152,7 +152,8 @@ impl BlockList<'_> {
         }
     }
 
-    // The three planes, if the list is in use, to the block that is picked.
+    // The three planes, if the list is in use, to the block that is picked. The two lent blocks stay apart, here and in evc_record: the picker
+    // takes them so (evc_pick), and a struct of both would be taken apart for it.
     fn predict(&self, pred0: &mut [u16], pred1: &mut [u16], to: PredBlock)
         requires list_examined { ListExamined self.now.block.given self.now.gmv (lent_list self.now.list) }
         requires pred_len_in_bounds { (pred_len ≤ length pred0.old) × (pred_len ≤ length pred1.old) }

@@ -22,7 +22,8 @@ pub struct EvcCandidates {
     pub refi: [i8; 4],
 }
 
-// The unit `back` before the block's first one, where its flag is set. `then_some` would take the difference where it is not, too.
+// The unit `back` before the block's first one, where its flag is set. `then_some` would take the difference where it is not, too,
+// and a closure for `then` would have to be told again that it may be taken.
 fn unit_before(flagged: bool, scup: Scu, back: Scu) -> Option<Scu>
     requires { flagged ≡ true → back.0 ≤ scup.0 }
     ensures { result ≡ then_some flagged (record { 0 = scup.0 - back.0 }) }

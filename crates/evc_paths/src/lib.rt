@@ -38,7 +38,8 @@ impl Path {
     }
 }
 
-// Through an array: by `copy_from_slice` whole samples take up to 1.4 times as long (luma 32 by 32: 232 against 165 ns).
+// Through an array: by `copy_from_slice` whole samples take up to 1.4 times as long (luma 32 by 32: 232 against 165 ns). The loop
+// is that of `sample_row` (evc_lanes).
 fn copy<const N: usize>(s: &[u16], at: usize, d: &mut [u16], to: usize)
     requires { (at + N ≤ length s.now) × (to + N ≤ length d.old) }
     ensures { d.new ≡ with_row d.old to N (λ (x : ℕ). get_or s.now (at + x) 0) }
@@ -70,7 +71,7 @@ pub fn copy_row(s: &[u16], n: usize, d: &mut [u16], to: usize)
 }
 
 // ---- w and h are plain here and below: whole samples and one direction take any height, so a type with a block's sides would ask more of
-// callers; dx and dy read as the Rust's
+// callers; dx and dy as a struct with the fact that they are phases would be made for `evc_mc_nn` and taken apart in `columns`
 
 // By value, since it is built into its caller: lent, the window is read again for each row (luma copy 4x16 executes 1.4 times the
 // instructions). What is not built in is lent it. Rows by number: `chunks` asks for a stride above 0, which callers need not give.
@@ -196,7 +197,7 @@ fn columns(
     evc_blocks::sample_block::<Second>(m, from, lanes, h * n / lanes, second, pred, to, one);
 }
 
-// By groups of eight columns, as the Rust, through an array of N numbers.
+// By groups of eight columns, as the Rust, by number as in `evc_mc_one`, through an array of N numbers.
 fn groups<const N: usize>(
     t: PlaneType,
     window: &PlaneSlice,

@@ -29,6 +29,7 @@ fn pick<'a>(
     ensures result_value { result.now ≡ drop offset (by_block block pred0.entry pred1.entry).now }
     ensures* once_ended { sem 𝓛 (once_ended result (both_end pred0.entry pred1.entry block offset)) }
 {
+    // In a `match` one arm would lend again, and the walk of the proof has arms alike.
     let pred = if let PredBlock::Second = block {
         pred1
     } else {

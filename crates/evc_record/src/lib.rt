@@ -111,10 +111,10 @@ fn block_of(h: TraceHeader, r: EvcTraceRecord) -> EvcBlock
     EvcBlock {
         pic_w: h.pic_w,
         pic_h: h.pic_h,
-        x: r.x as u32,
-        y: r.y as u32,
-        w: r.w as u32,
-        h: r.h as u32,
+        x: u32::from(r.x),
+        y: u32::from(r.y),
+        w: u32::from(r.w),
+        h: u32::from(r.h),
     }
 }
 
@@ -123,8 +123,8 @@ fn pocs_of(h: TraceHeader, r: EvcTraceRecord) -> Pocs
 {
     Pocs {
         poc: h.poc,
-        poc0: r.poc0 as u32,
-        poc1: r.poc1 as u32,
+        poc0: u32::from(r.poc0),
+        poc1: u32::from(r.poc1),
         list_poc0: h.list_poc0,
     }
 }
@@ -182,7 +182,8 @@ impl PlanesMut<'_> {
         planes.are_short(pic)
     }
 
-    // The three components of a predicted block.
+    // The three components of a predicted block. That the target is long enough is a fact of it and of a picture's sides together: no ghost
+    // field of either holds it, so it stands in contracts, here and in evc_replay.
     fn put_block(&mut self, b: Block, pred: &[u16])
         requires pred_len_in_bounds { pred_len ≤ length pred.now }
         requires long_enough { picture_short b.given.pic_w b.given.pic_h (target_of self.old) ≡ false }

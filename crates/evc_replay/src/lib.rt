@@ -52,6 +52,7 @@ fn replay_records(from: &Source, trace: &[u8], target: &mut PlanesMut) -> EvcRep
 {
     let mut pred0 = [0u16; PRED_LEN];
     let mut pred1 = [0u16; PRED_LEN];
+    // Counted, not by `enumerate`: behind the last record it is the answer's index too.
     let mut index: u64 = 0;
     let mut counts = MovedCounts::default();
     for record in trace[HEADER_LEN..].chunks(RECORD_LEN) {

@@ -80,6 +80,24 @@ pub lanes_more : (s o : List ℕ) (i j n : ℕ) → length o ≡ n → i + n ≤
 lanes_more s o i j n e a b =
     (grind (arith, length-zip2, length-take, length-drop), grind (arith, any_or, taken, length-zip2, length-take, length-drop))
 
+-- of n lanes that each hold a number above 1023 where they did, or where one of two samples is
+pub turn : (s o r : List ℕ) (i j n : ℕ) → ((x : ℕ) → x < n → too_large (get_or r x 0) ≡ too_large (get_or o x 0) || (too_large (get_or s (i + x) 0) || too_large (get_or s (j + x) 0)))
+    → row_exceeds r 0 n ≡ row_exceeds o 0 n || (row_exceeds s i n || row_exceeds s j n)
+unfolding row_exceeds
+turn s o r i j zero h = refl
+turn s o r i j (suc n) h =
+    let e : 0 + n ≡ n = omega arith in
+    rw (e, turn s o r i j n (λ x lt. h x (omega arith)), h n (omega arith)) (mixed (row_exceeds o 0 n) (row_exceeds s i n) (row_exceeds s j n) _ _ _)
+  where
+    mixed : (a b c x y z : Bool) → (a || (b || c)) || (x || (y || z)) ≡ (a || x) || ((b || y) || (c || z))
+    mixed true b c x y z = refl
+    mixed false true c true y z = refl
+    mixed false true c false y z = refl
+    mixed false false true true y z = refl
+    mixed false false true false true z = refl
+    mixed false false true false false z = refl
+    mixed false false false x y z = refl
+
 -- ---- what the answer says of each sample
 
 small : (x : ℕ) → too_large x ≡ false → x ≤ 1023

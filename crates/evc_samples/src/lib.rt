@@ -93,8 +93,8 @@ fn or_window(s: &[u16], at: usize, stride: usize, n: usize, h: usize) -> u16
     or_strips(s, at, stride, n, h)
 }
 
-// Whether a sample above 1023 is among them. Built into its callers
-// it takes small blocks up to 2 ns more.
+// Whether a sample above 1023 is among them. Built into its callers,
+// small blocks take up to 2 ns more. `&*s` hands on pointer and length in registers (docs/DECISIONS.md, 52).
 #[inline(never)]
 pub fn window_exceeds(s: &[u16], at: usize, stride: usize, n: usize, h: usize) -> bool
     requires { (at + h * stride + n ≤ length s.now + stride) × (4 ≤ n) × (0 < h) }

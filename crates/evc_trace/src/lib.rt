@@ -151,6 +151,7 @@ pub fn read_record(s: &[u8]) -> EvcTraceRecord
 
 // ---- the writers
 
+// Field by field, as the call gives them: counts have two bytes here and four in `TraceHeader`.
 fn put_header(pic_w: u16, pic_h: u16, poc: u16, list_poc0: u16, out: &mut [u8])
     requires { header_len count_len ≤ length out.old }
     ensures { (

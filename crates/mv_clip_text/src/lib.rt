@@ -83,7 +83,7 @@ fn print_text<W: Write>(out: &mut W, records: &[u8]) -> io::Result<()>
 
 // ---- the program
 
-// Reads until the buffer is full or the input ends, and returns how many bytes that were. Of an input that ends, `read_exact` does not tell;
+// Reads until the buffer is full or the input ends, and returns how many bytes that were. `read_exact` does not tell it of an input that ends;
 // `read_to_end` needs an allocator, for which `run` does not ask. std's `read_exact` counts its place in the same way.
 fn read_full<R: Read>(input: &mut R, bytes: &mut [u8]) -> io::Result<usize>
     ensures upper_bound { IfOk result (λ n. n ≤ length bytes.new) }
