@@ -1,17 +1,16 @@
 -- The records of a chunk, one behind the other, and what is written of them. Assumes nothing.
-use Rattle.std.proofs.Common.{List, [], append-nil, ◌≡◌, refl, sym, ap, ◌∙◌, subst, eq-eqb, ne_eqb, add-one, arith, ℕ, zero, suc, ◌+◌, ◌*◌, ◌/◌, ◌%◌, ◌<◌, Option, Some, None, length, take, drop, get_or}
+use Rattle.std.proofs.Common.{List, [], append-nil, ◌≡◌, refl, ap, ◌∙◌, subst, eq-eqb, ne_eqb, add-one, arith, ℕ, zero, suc, ◌+◌, ◌*◌, ◌/◌, ◌%◌, ◌<◌, length, take, drop, get_or}
 use Rattle.std.proofs.lemmas.List.{get_or-take, get_or-drop, drop-drop}
-use Rattle.std.specs.Io.KnownBytes.{Appends}
 use Rattle.std.specs.Simd.{first_chunks}
 use Rattle.evc_clip.specs.declared.EvcClipped.{EvcClipped}
 use Rattle.mv_clip_text.specs.Records.{answer_at, line, lines, incomplete, text}
+use Rattle.mv_clip_text.specs.Inner.{Wrote}
 use Rattle.mv_clip_text.proofs.Laws.{answer_same}
-use Rattle.mv_clip_text.proofs.Known.{appends_both}
+use Rattle.mv_clip_text.proofs.Wrote.{wrote_nothing, wrote_both}
 
-pub nothing_yet : (a : Option (List ℕ)) (s : List ℕ) → Appends a a (lines s 0)
+pub nothing_yet : (a s : List ℕ) → Wrote a a 0 0 (lines s 0)
 unfolding lines
-nothing_yet None s = tt
-nothing_yet (Some x) s = sym (append-nil x)
+nothing_yet a s = wrote_nothing a 0
 
 -- the record that a turn takes
 record_is : (n i : ℕ) (s : List ℕ) → i < n → get_or (first_chunks 16 n s) i [] ≡ take 16 (drop (16 * i) s)
@@ -30,19 +29,19 @@ answer_is s i = answer_same (take 16 (drop (16 * i) s)) s 0 (16 * i) (λ k l.
     let f : 16 * i + (0 + 2 * k + 1) ≡ 16 * i + 2 * k + 1 = omega arith in
     rw (byte_is s i (0 + 2 * k) (omega (arith, l)), byte_is s i (0 + 2 * k + 1) (omega (arith, l)), e, f) refl)
 
-module _ (a b : Option (List ℕ)) (s : List ℕ) (i : ℕ) (p : Appends a b (lines s i)) where
+module _ (s a b : List ℕ) (at i : ℕ) (p : Wrote a b 0 at (lines s i)) where
   -- a turn of the loop
-  pub one_more : (c : Option (List ℕ)) (n : ℕ) (r : EvcClipped) → i < n → r ≡ answer_at (get_or (first_chunks 16 n s) i []) 0 → Appends b c (line r) → Appends a c (lines s (i + 1))
+  pub one_more : (c : List ℕ) (end n : ℕ) (r : EvcClipped) → i < n → r ≡ answer_at (get_or (first_chunks 16 n s) i []) 0 → Wrote b c at end (line r) → Wrote a c 0 end (lines s (i + 1))
   unfolding lines
-  one_more c n r h e q =
+  one_more c end n r h e q =
       let f : r ≡ answer_at s (16 * i) = e ∙ ap (λ (t : List ℕ). answer_at t 0) (record_is n i s h) ∙ answer_is s i in
-      rw (add-one i) (appends_both a b c (lines s i) _ p (subst (λ (x : EvcClipped). Appends b c (line x)) f q))
+      rw (add-one i) (wrote_both p (subst (λ (x : EvcClipped). Wrote b c at end (line x)) f q))
 
   -- the end, with no incomplete record and with one
-  pub whole : i ≡ length s / 16 → length s % 16 ≡ 0 → Appends a b (text s)
+  pub whole : i ≡ length s / 16 → length s % 16 ≡ 0 → Wrote a b 0 at (text s)
   unfolding text
   whole e z = rw (eq-eqb (length s % 16) 0 z, append-nil, ← e) p
 
-  pub with_last : (c : Option (List ℕ)) (r : EvcClipped) → r ≡ incomplete → i ≡ length s / 16 → (length s % 16 ≡ 0 → ⊥) → Appends b c (line r) → Appends a c (text s)
+  pub with_last : (c : List ℕ) (end : ℕ) (r : EvcClipped) → r ≡ incomplete → i ≡ length s / 16 → (length s % 16 ≡ 0 → ⊥) → Wrote b c at end (line r) → Wrote a c 0 end (text s)
   unfolding text
-  with_last c r is e n q = rw (ne_eqb (length s % 16) 0 n, ← e, ← is) (appends_both a b c (lines s i) (line r) p q)
+  with_last c end r is e n q = rw (ne_eqb (length s % 16) 0 n, ← e, ← is) (wrote_both p q)

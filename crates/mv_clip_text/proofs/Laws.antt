@@ -1,21 +1,14 @@
 -- Laws of the text: chunks of whole records add up, and a negative size or place is refused. Assumes nothing.
 use mathlib.Core.Bool.{and-false}
 use Rattle.std.proofs.Common.{Bool, true, false, List, [], ◌∷◌, ◌++◌, append-nil, append_assoc, ◌⊎◌, ⊎_elim, ◌≡◌, refl, ap, ap₂, ◌∙◌, eq-eqb, ℕ, zero, suc, ◌+◌, ◌*◌, ◌/◌, ◌%◌, ◌<◌, ◌≤◌, add-zero, add-suc, arith, lit<, pos, length, length-append, get_or-append-add}
-use Rattle.std.proofs.Common.{w16, SFits}
 use Rattle.std.proofs.Math.ListN.{get_or-append}
-use Rattle.std.proofs.lemmas.Int.{ints}
-use Rattle.std.proofs.lemmas.Fmt.{length-decimal-le, length_signed_le}
-use Rattle.std.specs.Fmt.{decimal as printed, signed_decimal as printed_signed}
 use Rattle.std.proofs.lemmas.Bool.{lt-leb}
 use Rattle.evc_def.specs.Blocks.{Allowed, is_picture_side, bad_picture}
 use Rattle.evc_def.proofs.Blocks.{allowed_block}
 use Rattle.evc_def.specs.Codes.{◌when◌, first_of}
 use Rattle.evc_def.proofs.Codes.{refused}
-use Rattle.evc_clip.specs.declared.EvcClipped.{EvcClipped}
 use Rattle.evc_clip.specs.Clip.{nothing_moved, mv_clip}
-use Rattle.mv_clip_text.specs.Decimal.{decimal, signed_decimal}
 use Rattle.mv_clip_text.specs.Records.{field, answer_at, line, lines, text}
-use Rattle.mv_clip_text.proofs.Decimal.{decimal_printed, signed_printed}
 
 -- ---- chunks
 
@@ -97,26 +90,3 @@ module _ (s : List ℕ) (at : ℕ) where
   pub small : (answer_at s at).code < 100000
   unfolding answer_at mv_clip
   small = first_small _ _
-
--- ---- a line as the library prints it
-
-spaced : (p q r : List ℕ) → p ++ (32 ∷ []) ++ q ++ (32 ∷ []) ++ r ++ (10 ∷ []) ≡ p ++ (32 ∷ (q ++ (32 ∷ (r ++ (10 ∷ [])))))
-spaced p q r =
-    append_assoc (p ++ (32 ∷ []) ++ q ++ (32 ∷ [])) r (10 ∷ [])
-    ∙ append_assoc (p ++ (32 ∷ []) ++ q) (32 ∷ []) (r ++ (10 ∷ []))
-    ∙ append_assoc (p ++ (32 ∷ [])) q (32 ∷ (r ++ (10 ∷ [])))
-    ∙ append_assoc p (32 ∷ []) (q ++ (32 ∷ (r ++ (10 ∷ []))))
-
-module _ (a : EvcClipped) (small : a.code < 100000) (x : SFits w16 a.mv.x) (y : SFits w16 a.mv.y) where
-  pub line_printed : line a ≡ printed a.code ++ (32 ∷ (printed_signed a.mv.x ++ (32 ∷ (printed_signed a.mv.y ++ (10 ∷ [])))))
-  unfolding line
-  line_printed =
-      rw (decimal_printed a.code small, signed_printed a.mv.x (omega (arith, ints, x)) (omega (arith, ints, x)), signed_printed a.mv.y (omega (arith, ints, y)) (omega (arith, ints, y)))
-      (spaced (decimal a.code) (signed_decimal a.mv.x) (signed_decimal a.mv.y))
-
-  pub line_short : length (line a) ≤ 20
-  line_short =
-      let n : length (printed a.code) ≤ 5 = length-decimal-le 5 a.code (lit< tt) small (omega (arith, small)) in
-      let u : length (printed_signed a.mv.x) ≤ 6 = length_signed_le 5 a.mv.x (omega (arith, ints, x)) (omega (arith, ints, x)) in
-      let v : length (printed_signed a.mv.y) ≤ 6 = length_signed_le 5 a.mv.y (omega (arith, ints, y)) (omega (arith, ints, y)) in
-      rw (line_printed, length-append, length-append, length-append) (omega (arith, n, u, v))

@@ -1,4 +1,4 @@
-pub mod Decimal
+pub mod Wrote
 pub mod Chunks
 pub mod Laws
 pub mod Examples

@@ -1,3 +1,4 @@
 pub mod Decimal
 pub mod Records
+pub mod Inner
 pub mod Program
