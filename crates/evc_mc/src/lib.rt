@@ -305,6 +305,9 @@ fn predict_lists(l0: &BlockList, l1: &BlockList, pred0: &mut [u16], pred1: &mut 
     }
 }
 
+// Built into the exported call and into replay's: as a call of its own it takes 96 bytes of stack more, and include/evc_inter.h promises less
+// than 2.5 kB (docs/SPEED.md, 'Positions and windows').
+#[inline(always)]
 pub fn evc_mc2(
     block: EvcBlock,
     list0: Option<&RefPicList>,

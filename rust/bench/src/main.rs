@@ -25,7 +25,8 @@ usage: bench [FILTER] [--rounds N] [--markdown] [--guard]
 FILTER      only rows that have it in their names
 --rounds N  rounds, of which the least time counts; 200 if not given
 --markdown  tables as in docs/SPEED-TABLES.md
---guard     luma and chroma alone; ends with 1 where a filter has lost its vector form
+--guard     luma and chroma alone; ends with 1 where a filter has lost its vector form, or a
+            call takes more stack than include/evc_inter.h says
 
 names of rows begin with: ";
 
@@ -130,7 +131,7 @@ fn main() {
         run(&mut report);
     }
     if options.guard {
-        std::process::exit(report.guard());
+        std::process::exit(report.guard() | room::guard());
     }
     report.targets();
 }

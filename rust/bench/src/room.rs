@@ -123,17 +123,36 @@ fn pad() -> Room {
     room
 }
 
+/// A call, and the bytes of stack that include/evc_inter.h says it stays below.
+type Call = (&'static str, fn() -> Room, usize);
+
+const CALLS: [Call; 5] = [
+    ("evc_mc_plane", mc_plane, 2_500),
+    ("evc_mc2", mc2, 2_500),
+    ("evc_pad", pad, 256),
+    ("evc_trace_replay", replay::room, 27_500),
+    ("evc_camera_motion", camera::room, 256),
+];
+
+/// Says which calls take more stack than the header says, and gives the status to end with.
+pub fn guard() -> i32 {
+    let none = nothing().stack;
+    let mut deep = 0;
+    for (name, call, below) in CALLS {
+        let stack = call().stack - none;
+        if stack >= below {
+            deep += 1;
+            println!("{name}: {stack} bytes of stack, below {below} by include/evc_inter.h");
+        }
+    }
+    i32::from(deep > 0)
+}
+
 pub fn run(report: &mut Report) {
     let mut rows = Vec::new();
-    let calls: [(&str, fn() -> Room); 6] = [
-        ("no call, for comparison", nothing),
-        ("evc_mc_plane", mc_plane),
-        ("evc_mc2", mc2),
-        ("evc_pad", pad),
-        ("evc_trace_replay", replay::room),
-        ("evc_camera_motion", camera::room),
-    ];
-    for (name, call) in calls {
+    let none: (&str, fn() -> Room) = ("no call, for comparison", nothing);
+    let calls = CALLS.map(|(name, call, _)| (name, call));
+    for (name, call) in [none].into_iter().chain(calls) {
         if report.wants(&format!("room {name}")) {
             let room = call();
             rows.push(vec![
