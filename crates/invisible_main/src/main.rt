@@ -8,7 +8,6 @@ use evc_clip::{EvcClipped, EvcMoved};
 use evc_def::{EvcBlock, EvcMv};
 use evc_mc::{PRED_LEN, Planes, RefPicList};
 use evc_plane::PlaneType;
-use std::alloc::{AllocError, Global};
 use std::{fmt, io};
 
 // What a picture of 64 by 8 needs, and one of 8 by 64.
@@ -194,11 +193,12 @@ impl Side {
     }
 
     // Padding goes over what is in the border.
-    fn luma(self, alloc: Global) -> Result<Vec<u16>, AllocError> {
+    fn hold(self, luma: &mut [u16]) {
+        for (i, sample) in luma.iter_mut().enumerate() {
+            *sample = self.sample(i);
+        }
         let b = self.parts().whole;
-        let mut luma: Vec<u16> = (0..LUMA_LEN).map(|i| self.sample(i)).collect(alloc)?;
-        let _ = evc_pad::pad(PlaneType::Y, b.pic_w, b.pic_h, &mut luma);
-        Ok(luma)
+        let _ = evc_pad::pad(PlaneType::Y, b.pic_w, b.pic_h, luma);
     }
 
     fn line(self, rt: &impl Print, component: i16, luma: &[u16], chroma: &[u16]) -> io::Result<()> {
@@ -212,19 +212,20 @@ impl Side {
         println!(rt; "exact place {exact}, moved {} {}", m.x, m.y)
     }
 
-    fn lines(self, rt: &impl Print, alloc: Global) -> io::Result<()> {
-        let luma = self.luma(alloc)?;
-        let chroma = [0; CHROMA_LEN]; // 0 in the border too, as padding leaves it
+    fn lines(self, rt: &impl Print, luma: &[u16], chroma: &[u16]) -> io::Result<()> {
         for component in self.components() {
-            self.line(rt, component, &luma, &chroma)?;
+            self.line(rt, component, luma, chroma)?;
         }
         Ok(())
     }
 }
 
 fn main(rt: HostRuntime) -> io::Result<()> {
+    let mut luma = [0; LUMA_LEN];
+    let chroma = [0; CHROMA_LEN]; // 0 in the border too, as padding leaves it
     for side in [Side::Left, Side::Right, Side::Above, Side::Below] {
-        side.lines(&rt, rt.alloc())?;
+        side.hold(&mut luma);
+        side.lines(&rt, &luma, &chroma)?;
     }
     Ok(())
 }

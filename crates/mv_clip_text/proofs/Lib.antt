@@ -1,3 +1,4 @@
+pub mod Decimal
 pub mod Wrote
 pub mod Chunks
 pub mod Laws
