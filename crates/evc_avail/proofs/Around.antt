@@ -36,7 +36,7 @@ module _ (b : EvcBlock) (column row : ℕ) where
         bottom = leb→le row (h_scu b) a.1;
       }
 
-  has : InPicture b column row → has_unit b column row ≡ true
+  pub has : InPicture b column row → has_unit b column row ≡ true
   has i = simp (le-leb 1 column i.left, le-leb column (w_scu b) i.right, le-leb 1 row i.top, le-leb row (h_scu b) i.bottom)
 
   pub has_not : (InPicture b column row → ⊥) → has_unit b column row ≡ false
@@ -51,14 +51,14 @@ module _ (b : EvcBlock) (column row : ℕ) where
   unit_below e = let i = in_picture e in index_below b.pic_w b.pic_h (column - 1) (row - 1) (omega arith) (omega arith)
 
 -- two numbers that a test found to differ
-apart : (a b : ℕ) → not (eqb a b) ≡ true → a ≤ b → a < b
+pub apart : (a b : ℕ) → not (eqb a b) ≡ true → a ≤ b → a < b
 apart a b t l = by_test (ltb a b) refl
   where
     by_test : (s : Bool) → ltb a b ≡ s → a < b
     by_test true e = ltb-true a b e
     by_test false e = let k = ltb-false a b e in absurd (eqb-false a b (not-true (eqb a b) t) (omega arith))
 
-same : (a b : ℕ) → not (eqb a b) ≡ false → a ≡ b
+pub same : (a b : ℕ) → not (eqb a b) ≡ false → a ≡ b
 same a b t = eqb-true a b (not-false (eqb a b) t)
 
 none_then : (t : Bool) (x : Scu) → None ≡ then_some t x → t ≡ false
@@ -107,7 +107,7 @@ module _ (b : EvcBlock) (p : Allowed b.pic_w b.x b.w) (q : Allowed b.pic_h b.y b
   first_unit first e =
       sym (there b (first_column b) (first_row b) (record { left = omega arith; right = omega arith; top = omega arith; bottom = omega arith }) first.0 (omega (arith, first_row_lem b)))
 
-  below_row : (below b - 1) * w_scu b ≡ y_scu b * w_scu b + scuh b * w_scu b
+  pub below_row : (below b - 1) * w_scu b ≡ y_scu b * w_scu b + scuh b * w_scu b
   below_row = let e : below b - 1 ≡ y_scu b + scuh b = omega arith in rw e (add-mul (y_scu b) (scuh b) (w_scu b))
 
   pub below_unit : (index : ℕ) → index ≡ scup b + scuh b * w_scu b → (t : Bool) → t ≡ not (eqb (b.y + b.h) b.pic_h) → then_some t (record { 0 = index }) ≡ unit_of b (first_column b) (below b)

@@ -1,4 +1,5 @@
 pub mod Around
+pub mod EightUnits
 pub mod Answers
 pub mod Seen
 pub mod Flags

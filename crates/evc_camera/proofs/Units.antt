@@ -20,6 +20,9 @@ use Rattle.evc_camera.specs.Inner.{Within}
 pub sum_fits : (z : ℤ) → nat_abs z ≤ 32768 * most_units → SFits w64 z
 sum_fits z h = fit_abs h (lit< tt)
 
+pub within_wider : (s : Sums) (k m : ℕ) → Within s k → k ≤ m → Within s m
+within_wider s k m w h = record { few = omega arith; across = omega arith; down = omega arith }
+
 -- after a vector that may count
 pub within_more : (s r : Sums) (counted : Bool) (mv : EvcMv) (k : ℕ) → Within s k → r ≡ cond counted (with_mv s mv) s
     → nat_abs r.x ≤ nat_abs s.x + 32768 → nat_abs r.y ≤ nat_abs s.y + 32768 → Within r (k + 1)
