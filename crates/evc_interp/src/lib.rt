@@ -224,6 +224,8 @@ fn mc_plane(
     Ok(())
 }
 
+// With the definitions in sight the check tells a refusal by the wrong number from one that is right: the edit `refusal_1_as_2`.
+#[tactic(auto, unfolding(crate::specs::Prediction::mc_plane_code, crate::specs::Prediction::mc_plane_after, evc_def::specs::Codes::first_of))]
 pub fn evc_mc_plane(
     t: PlaneType,
     pic_w: u32,
