@@ -26,7 +26,7 @@ FILTER      only rows that have it in their names
 --rounds N  rounds, of which the least time counts; 200 if not given
 --markdown  tables as in docs/SPEED-TABLES.md
 --guard     luma and chroma alone; ends with 1 where a filter has lost its vector form, or a
-            call takes more stack than include/evc_inter.h says
+            call of the table 'Room' takes more stack than include/evc_inter.h says
 
 names of rows begin with: ";
 

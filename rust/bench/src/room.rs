@@ -123,7 +123,8 @@ fn pad() -> Room {
     room
 }
 
-/// A call, and the bytes of stack that include/evc_inter.h says it stays below.
+/// A call, and the bytes of stack that include/evc_inter.h says it stays below; of a replay it says
+/// "about 27 kB", taken here for below 27,500.
 type Call = (&'static str, fn() -> Room, usize);
 
 const CALLS: [Call; 5] = [
@@ -134,7 +135,8 @@ const CALLS: [Call; 5] = [
     ("evc_camera_motion", camera::room, 256),
 ];
 
-/// Says which calls take more stack than the header says, and gives the status to end with.
+/// Says which of these calls take more stack than the header says, the bench's own frames included,
+/// and gives the status to end with.
 pub fn guard() -> i32 {
     let none = nothing().stack;
     let mut deep = 0;
@@ -142,7 +144,7 @@ pub fn guard() -> i32 {
         let stack = call().stack - none;
         if stack >= below {
             deep += 1;
-            println!("{name}: {stack} bytes of stack, below {below} by include/evc_inter.h");
+            println!("{name}: {stack} bytes of stack with the bench's, not below {below}");
         }
     }
     i32::from(deep > 0)
